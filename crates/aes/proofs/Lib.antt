@@ -1,0 +1,5 @@
+mod Expansion
+mod Blocks
+mod Stream
+mod Layers
+mod Points

@@ -1,0 +1,4 @@
+mod Table
+mod Tables
+pub mod Words
+pub mod Inverse

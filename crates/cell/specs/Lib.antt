@@ -1,0 +1,4 @@
+pub mod Payload
+pub mod Frame
+pub mod Commands
+pub mod Refusals

@@ -1,0 +1,4 @@
+mod Xors
+pub mod Streams
+mod Undoing
+pub mod Laws

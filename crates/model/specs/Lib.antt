@@ -1,0 +1,13 @@
+pub mod Lists
+pub mod Messages
+pub mod Ends
+pub mod Meaning
+pub mod Streams
+pub mod Flows
+pub mod Circuit
+pub mod Calls
+pub mod Refusals
+pub mod PlainMachine
+pub mod Runs
+pub mod Law
+pub mod Example

@@ -1,0 +1,4 @@
+pub mod Sha1
+pub mod Quads
+pub mod Digests
+pub mod Laws

@@ -1,0 +1,4 @@
+pub mod Flat
+pub mod Ends
+pub mod Table
+pub mod Definitions

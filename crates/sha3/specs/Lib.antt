@@ -1,0 +1,5 @@
+pub mod Keccak
+pub mod Sha3
+pub mod Planes
+pub mod Digests
+pub mod Laws

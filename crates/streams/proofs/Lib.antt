@@ -1,0 +1,4 @@
+mod Windows
+mod Rules
+mod Records
+mod Orders

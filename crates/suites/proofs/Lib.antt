@@ -1,0 +1,2 @@
+mod Counter
+mod Taken
