@@ -1,4 +1,6 @@
 //! AES-128 and AES-256 of FIPS 197, their key stream in counter mode, and the layers that it adds to payloads.
+#![tactic(auto)]
+
 ghost use Rattle.std.specs.Prelude.{◌≡◌, ◌≤◌, length};
 
 pub mod block_cipher;

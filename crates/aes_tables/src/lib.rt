@@ -1,4 +1,6 @@
 //! The substitution of FIPS 197 and the tables that a round reads.
+#![tactic(auto)]
+
 ghost use Rattle.std.specs.Int.Bits.{bit_xor};
 ghost use Rattle.std.specs.Prelude.{get_or, ◌≡◌, ◌<◌};
 ghost use Rattle.aes_tables.specs.Field.{S, power};

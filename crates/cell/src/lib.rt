@@ -1,4 +1,5 @@
 //! Cells and relay payloads: their bytes, read where they lie and written into lent buffers.
+#![tactic(auto)]
 
 mod command;
 mod error;

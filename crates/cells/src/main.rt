@@ -1,4 +1,6 @@
 //! Cells made by other implementations, sealed, carried and opened anew: every payload on a link has to be theirs, byte for byte.
+#![tactic(auto)]
+
 mod circuit;
 mod line;
 mod reading;

@@ -1,5 +1,6 @@
 //! A client, alone or in a circuit, on payloads of 509 bytes that the host moves. As at a relay, tests come before changes, and a
 //! refusal leaves payload and client as they were.
+#![tactic(auto)]
 
 mod numbers;
 mod opening;

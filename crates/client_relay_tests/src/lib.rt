@@ -1,4 +1,5 @@
 //! The two ends on examples: ends of real keys, and ends whose cipher changes nothing or whose tag never changes.
+#![tactic(auto)]
 
 #[cfg(test)]
 mod any_end;

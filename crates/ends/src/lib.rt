@@ -1,4 +1,5 @@
 //! The client's end and the relay's end of a circuit, each complete in itself, on payloads of 509 bytes that the host moves.
+#![tactic(auto)]
 
 mod client;
 mod faults;

@@ -1,4 +1,5 @@
 //! The two ends on examples, with a cipher that changes nothing and digests whose tag never changes.
+#![tactic(auto)]
 
 #[cfg(test)]
 mod tests;

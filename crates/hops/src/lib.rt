@@ -1,5 +1,6 @@
 //! The ends of hops, each alone and in a row: how a payload is sealed and wrapped in layers, and how the end that it is for
 //! finds out.
+#![tactic(auto)]
 
 mod end;
 mod recognition;

@@ -1,5 +1,7 @@
 //! A message's journey outward: what the client adds, what each relay removes, and which hop recognises it; then a cell that
 //! passes a relay with two zero check bytes by chance, and the next cell for that relay, which it still recognises.
+#![tactic(auto)]
+
 mod relay;
 mod script;
 mod send;

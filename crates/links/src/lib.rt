@@ -1,4 +1,5 @@
 //! Links between hops: lines of waiting cells, of two kinds, and links in a row.
+#![tactic(auto)]
 
 mod byte_link;
 mod cell_link;

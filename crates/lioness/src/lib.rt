@@ -1,5 +1,6 @@
 //! LIONESS, the wide block cipher of R. Anderson and E. Biham, on payloads of 509 bytes:
 //! the key stream is that of AES-256, and the keyed hash is SHA3-256 of the key and then the bytes.
+#![tactic(auto)]
 
 pub mod cipher;
 pub mod steps;

@@ -1,5 +1,6 @@
 //! Messages as both ends of a circuit send and receive them: which an end may send, which it may be handed, what is then counted and
 //! recorded, and how a refusal is named.
+#![tactic(auto)]
 
 mod delivery;
 mod faults;

@@ -1,4 +1,6 @@
 //! What the ends and the circuit mean, and the law over whole runs.
+#![tactic(auto)]
+
 ghost use Rattle.model.specs.Example.{Example};
 ghost use Rattle.model.specs.Law.{TheLaw};
 ghost use Rattle.model.specs.Meaning.{rules};

@@ -1,4 +1,6 @@
 //! Points of the rules, worked out, and held together in one statement.
+#![tactic(auto)]
+
 ghost use Rattle.std.specs.Prelude.{[], ◌∷◌, ◌≡◌};
 ghost use Rattle.points.specs.Points.{WorkedPoints};
 ghost use Rattle.streams.specs.Points.{WorkedPoints as EndPoints};

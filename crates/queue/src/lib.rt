@@ -1,5 +1,7 @@
 //! A queue in lent slots: its functions take the slots and the place of what waits in them.
 //! Each refuses a place that is none of the ring before anything else, and a refusal changes nothing.
+#![tactic(auto)]
+
 ghost use Rattle.std.specs.Prelude.{◌≡◌, ℕ, ◌+◌, ◌-◌, ◌<◌, ◌≤◌, true, false, [], ◌∷◌, ◌++◌, length, take, drop, Some, None, MatchResult, slice_index_or};
 ghost use Rattle.queue.specs.Ring.{waiting, slot_of, grown, shrunk};
 ghost use Rattle.queue.specs.Refusals.{within, put_refusal, take_refusal};

@@ -2,6 +2,7 @@
 //! change, and then changes what it may: a refusal leaves payload and relay as they were. The operations with `room` are for a host
 //! that passes payloads on over links: it says whether the link has room, and without room nothing changes, unless another refusal
 //! comes first.
+#![tactic(auto)]
 
 mod opening;
 mod parts;

@@ -1,5 +1,7 @@
 //! Times a relay's work on one cell for each suite: a passing cell costs one layer, a delivered one also its tag, the
 //! comparison and the moved digest. Checksums go to standard output, nanoseconds a cell to standard error.
+#![tactic(auto)]
+
 use anyhow::anyhow;
 use cell::PayloadReader;
 use crypto::cipher::Cipher;

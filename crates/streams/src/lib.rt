@@ -1,4 +1,5 @@
 //! What an end keeps of its streams and, for each hop, of its windows: plain records, no secrets.
+#![tactic(auto)]
 
 mod flow;
 mod record;

@@ -1,4 +1,5 @@
 //! The three suites of a hop, each a cipher and a digest, and the slip that a hop's keys come from.
+#![tactic(auto)]
 
 pub mod ciphers;
 pub mod digests;

@@ -1,4 +1,6 @@
 //! Runs test vectors: one a line on standard input, its verdict on standard output, and how many were wrong at the end.
+#![tactic(auto)]
+
 mod kinds;
 mod reading;
 

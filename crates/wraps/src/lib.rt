@@ -1,4 +1,5 @@
 //! A payload sealed for the end of one hop, and wrapped in the layers of every hop up to it.
+#![tactic(auto)]
 
 mod error;
 mod wrapping;

@@ -3,4 +3,4 @@ use Rattle.aes_tables.proofs.Tables.{power_at}
 use Rattle.aes_tables.proofs.power_of_two.Goals as goal
 
 pub returns : goal.returns
-returns c = c.power-entry.ensures ∙ power_at c.args.e
+returns c = c.power_entry.ensures ∙ power_at c.args.e

@@ -4,4 +4,4 @@ use Rattle.aes_tables.proofs.Tables.{sbox-at}
 use Rattle.aes_tables.proofs.sub_byte.Goals as goal
 
 pub returns : goal.returns
-returns c = c.sbox-entry.ensures ∙ sbox-at c.args.x (search rules)
+returns c = c.sbox_entry.ensures ∙ sbox-at c.args.x (search rules)

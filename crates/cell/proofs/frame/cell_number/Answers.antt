@@ -3,4 +3,4 @@ use Rattle.cell.proofs.frame.cell_number.Goals as goal
 
 pub returns : goal.returns
 unfolding cell_number
-returns c = c.high-half.ensures
+returns c = c.high_half.ensures

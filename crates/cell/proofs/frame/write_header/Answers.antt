@@ -10,5 +10,5 @@ returns c =
     let is : eqb (length cell) 514 ≡ true = eq-eqb (length cell) 514 c.if-cell-ne514.false in
     record {
       refuses = rw is refl;
-      writes = rw is (c.put-part.ensures ∙ ap (λ (h : List ℕ). h ++ drop (0 + length h) cell) c.header.ensures);
+      writes = rw is (c.put_part.ensures ∙ ap (λ (h : List ℕ). h ++ drop (0 + length h) cell) c.header.ensures);
     }

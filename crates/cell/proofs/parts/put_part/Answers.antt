@@ -10,6 +10,6 @@ returns c =
     let at = c.args.at in
     let n = length part in
     let few : at + n - at ≡ n = omega arith in
-    ap (λ k. put_mid at k bytes c.copy-from-slice.new.self) few
-    ∙ ap (put_mid at n bytes) c.copy-from-slice.ensures.after
+    ap (λ k. put_mid at k bytes c.copy_from_slice.new.self) few
+    ∙ ap (put_mid at n bytes) c.copy_from_slice.ensures.after
     ∙ ap (λ v. take at bytes ++ (part ++ v)) (drop-drop n at bytes)

@@ -10,7 +10,7 @@ returns c =
     let tag = c.args.tag in
     let whole = eq-eqb (length p) 509 c.if-payload-ne509.false in
     let end : 5 + length tag ≡ 9 = omega arith in
-    let set : c.put-part.new.bytes ≡ tagged tag p = c.put-part.ensures ∙ ap (λ n. take 5 p ++ (tag ++ drop n p)) end in
+    let set : c.put_part.new.bytes ≡ tagged tag p = c.put_part.ensures ∙ ap (λ n. take 5 p ++ (tag ++ drop n p)) end in
     record {
       refuses = rw whole refl;
       writes = set;

@@ -15,15 +15,15 @@ returns c =
     let n : ℕ = length content in
     let command : ℕ = command_byte c.args.command in
     let header : List ℕ = command ∷ 0 ∷ 0 ∷ stream / 256 ∷ stream % 256 ∷ 0 ∷ 0 ∷ 0 ∷ 0 ∷ n / 256 ∷ n % 256 ∷ [] in
-    let first : c.put-part.new.bytes ≡ header ++ drop 11 p =
-    c.put-part.ensures ∙ ap (λ (h : List ℕ). h ++ drop (0 + length h) p)
+    let first : c.put_part.new.bytes ≡ header ++ drop 11 p =
+    c.put_part.ensures ∙ ap (λ (h : List ℕ). h ++ drop (0 + length h) p)
     (c.header.ensures ∙ ap (λ b. b ∷ 0 ∷ 0 ∷ stream / 256 ∷ stream % 256 ∷ 0 ∷ 0 ∷ 0 ∷ 0 ∷ n / 256 ∷ n % 256 ∷ []) c.byte.ensures.writes) in
-    let rest : List ℕ = drop (11 + n) c.put-part.new.bytes in
-    let second : c.put-part-2.new.bytes ≡ header ++ (content ++ rest) = c.put-part-2.ensures ∙ ap (λ v. take 11 v ++ (content ++ rest)) first in
-    let few : length c.put-part-2.new.bytes - (11 + n) ≡ 498 - n = omega arith in
+    let rest : List ℕ = drop (11 + n) c.put_part.new.bytes in
+    let second : c.put_part-2.new.bytes ≡ header ++ (content ++ rest) = c.put_part-2.ensures ∙ ap (λ v. take 11 v ++ (content ++ rest)) first in
+    let few : length c.put_part-2.new.bytes - (11 + n) ≡ 498 - n = omega arith in
     let front : length (header ++ content) ≡ 11 + n = omega arith in
-    let third : c.clear-from.new.bytes ≡ header ++ (content ++ replicate (498 - n) 0) =
-    c.clear-from.ensures ∙ ap (λ k. take (11 + n) c.put-part-2.new.bytes ++ replicate k 0) few
+    let third : c.clear_from.new.bytes ≡ header ++ (content ++ replicate (498 - n) 0) =
+    c.clear_from.ensures ∙ ap (λ k. take (11 + n) c.put_part-2.new.bytes ++ replicate k 0) few
     ∙ ap (λ v. take (11 + n) v ++ replicate (498 - n) 0) second
     ∙ ap (λ v. v ++ replicate (498 - n) 0) (take_at (header ++ content) rest (11 + n) front) in
     let whole = eq-eqb (length p) 509 c.if-payload-ne509.false in

@@ -5,19 +5,19 @@ use Rattle.fields.specs.Hex.{decoded, behind}
 use Rattle.fields.proofs.Hexes.{no-high, no-low, one_byte, odd}
 use Rattle.fields.proofs.hex.decode.Goals as goal
 
-pub returns-in-default : goal.returns-in-default
-returns-in-default c =
-    no-high c.args.text.now c.loop-i.i (omega arith) (vec_items c.loop-i.bytes) c.loop-i.invariant.1 c.in-default.ensures.value
+pub returns-in_default : goal.returns-in_default
+returns-in_default c =
+    no-high c.args.text.now c.loop-i.i (omega arith) (vec_items c.loop-i.bytes) c.loop-i.invariant.1 c.in_default.ensures.value
 
-pub returns-in-default-digit : goal.returns-in-default-digit
-returns-in-default-digit c =
-    no-low c.args.text.now c.loop-i.i (omega arith) (vec_items c.loop-i.bytes) c.loop-i.invariant.1 c.in-Some.high c.in-Some.ensures.value c.in-default-digit.ensures.value
+pub returns-in_default-digit : goal.returns-in_default-digit
+returns-in_default-digit c =
+    no-low c.args.text.now c.loop-i.i (omega arith) (vec_items c.loop-i.bytes) c.loop-i.invariant.1 c.in-Some.high c.in-Some.ensures.value c.in_default-digit.ensures.value
 
 pub loop-i-preserved : goal.loop-i-preserved
 loop-i-preserved c = (
   omega arith,
   one_byte c.args.text.now c.loop-i.i (omega arith) (vec_items c.loop-i.bytes) c.loop-i.invariant.1 c.in-Some.high c.in-Some-digit.low c.in-Some.ensures.value c.in-Some-digit.ensures.value
-      ∙ ap (λ bs. behind bs (decoded (drop (c.loop-i.i + 2) c.args.text.now))) (sym (c.in-ok-push.ensures.items ∙ ap (λ (b : ℕ). vec_items c.loop-i.bytes ++ (b ∷ [])) c.byte-of.ensures)),
+      ∙ ap (λ bs. behind bs (decoded (drop (c.loop-i.i + 2) c.args.text.now))) (sym (c.in_ok-push.ensures.items ∙ ap (λ (b : ℕ). vec_items c.loop-i.bytes ++ (b ∷ [])) c.byte_of.ensures)),
 )
 
 pub returns-then-i-text : goal.returns-then-i-text

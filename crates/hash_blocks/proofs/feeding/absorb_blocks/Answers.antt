@@ -12,7 +12,7 @@ loop-at-preserved g c =
       omega arith,
       ap (blocks g.row.W g.S.BlockFunction.after (g.S.BlockFunction.view c.absorb.new.self)) (ap (λ (k : ℕ). drop k bs) (omega arith) ∙ sym (drop-drop g.row.W i bs))
           ∙ ap (λ s. blocks g.row.W g.S.BlockFunction.after s (drop g.row.W (drop i bs)))
-          (c.absorb.ensures ∙ ap (g.S.BlockFunction.after (g.S.BlockFunction.view c.loop-at.state)) c.block-at.ensures)
+          (c.absorb.ensures ∙ ap (g.S.BlockFunction.after (g.S.BlockFunction.view c.loop-at.state)) c.block_at.ensures)
           ∙ sym (blocks_more g.row.W g.S.BlockFunction.after (g.S.BlockFunction.view c.loop-at.state) (drop i bs) c.requires le)
           ∙ c.loop-at.invariant.1,
     )

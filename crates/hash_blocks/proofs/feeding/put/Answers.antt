@@ -6,7 +6,7 @@ use Rattle.hash_blocks.proofs.feeding.put.Goals as goal
 pub loop-k-preserved : goal.loop-k-preserved
 loop-k-preserved g c = (
   length-set c.loop-k.block _ _ ∙ c.loop-k.invariant.0,
-  put-more c.args.block.now c.loop-k.block c.args.part.now c.args.fill c.loop-k.k (omega (arith, c.requires.0, c.loop-k.invariant.0)) (omega arith) c.loop-k.invariant.1,
+  put-more c.args.block.now c.loop-k.block c.args.part.now c.args.fill c.loop-k.k (omega (arith, c.requires.part_bound, c.loop-k.invariant.0)) (omega arith) c.loop-k.invariant.1,
 )
 
 pub returns : goal.returns

@@ -30,9 +30,9 @@ loop-i-preserved g c =
     let h = drop-read f c.args.ends.now j e (omega arith) c.index-ends-i.is in
     let long : length p ≡ 509 = omega arith in
     let fails : recognises R.tags (f e).digest (layered R (drop i es) (d - i) x) ≡ false =
-    ap (recognises R.tags (f e).digest) (sym c.loop-i.invariant.1) ∙ sym (at_length p (recognises R.tags (f e).digest p) long) ∙ sym c.in-default.ensures.test in (
+    ap (recognises R.tags (f e).digest) (sym c.loop-i.invariant.1) ∙ sym (at_length p (recognises R.tags (f e).digest p) long) ∙ sym c.in_default.ensures.test in (
       omega arith,
-      c.add-layer.ensures ∙ ap (g.C.Cipher.added e.cipher e.layer) c.loop-i.invariant.1 ∙ sym (layer-step R es i j d (f e) x s l h),
+      c.add_layer.ensures ∙ ap (g.C.Cipher.added e.cipher e.layer) c.loop-i.invariant.1 ∙ sym (layer-step R es i j d (f e) x s l h),
       taken_step R es i j d (f e) x s l h false c.loop-i.invariant.2 fails,
     )
 

@@ -22,12 +22,12 @@ hops-preserved g c =
     let j = c.hops.j in
     let e = c.index-ends-j.result in
     let q = c.hops.payload in
-    let p = c.remove-layer.new.payload in
+    let p = c.remove_layer.new.payload in
     let lt : j < length xs = omega arith in
-    let off : p ≡ R.removed (f e).cipher (f e).layer q = c.remove-layer.ensures in
+    let off : p ≡ R.removed (f e).cipher (f e).layer q = c.remove_layer.ensures in
     let long : length p ≡ 509 = omega arith in
     let fails : recognises R.tags (f e).digest (R.removed (f e).cipher (f e).layer q) ≡ false =
-    ap (recognises R.tags (f e).digest) (sym off) ∙ sym (at_length p (recognises R.tags (f e).digest p) long) ∙ sym c.in-default.ensures.test in (
+    ap (recognises R.tags (f e).digest) (sym off) ∙ sym (at_length p (recognises R.tags (f e).digest p) long) ∙ sym c.in_default.ensures.test in (
       omega arith,
       off ∙ ap (R.removed (f e).cipher (f e).layer) c.hops.invariant.1 ∙ sym (unwrap-step R es j (f e) c.args.payload.now (nth_read f xs j e lt c.index-ends-j.is)),
       c.hops.invariant.2 ∙ seek-step R es j (f e) q false (drop-read f xs j e lt c.index-ends-j.is) fails ∙ ap (λ p. past (j + 1) (recognised_at R (drop (j + 1) es) p)) (sym off),
@@ -60,9 +60,9 @@ returns-in-Some g c =
     let j = c.hops.j in
     let e = c.index-ends-j.result in
     let q = c.hops.payload in
-    let p = c.remove-layer.new.payload in
+    let p = c.remove_layer.new.payload in
     let lt : j < length xs = omega arith in
-    let off : p ≡ R.removed (f e).cipher (f e).layer q = c.remove-layer.ensures in
+    let off : p ≡ R.removed (f e).cipher (f e).layer q = c.remove_layer.ensures in
     let long : length p ≡ 509 = omega arith in
     let holds : recognises R.tags (f e).digest (R.removed (f e).cipher (f e).layer q) ≡ true =
     ap (recognises R.tags (f e).digest) (sym off) ∙ sym (at_length p (recognises R.tags (f e).digest p) long) ∙ sym c.in-Some.ensures.test in

@@ -6,13 +6,13 @@ use Rattle.hops.specs.Views.{end_seen}
 use Rattle.hops.proofs.Walks.{drop-read, worn-step, worn-here, worn-last}
 use Rattle.hops.proofs.row.worn_out.Goals as goal
 
-pub returns-then-is-worn : goal.returns-then-is-worn
-returns-then-is-worn g c =
+pub returns-then-is_worn : goal.returns-then-is_worn
+returns-then-is_worn g c =
     let f = end_seen {C = g.row.C.Denot} g.D.Digest in
     let xs = c.args.ends.now in
     let e = c.index-ends-i.result in
     let h = drop-read f xs c.loop-i.i e (omega arith) c.index-ends-i.is in
-    sym (c.loop-i.invariant.1 ∙ worn-here (map f xs) c.loop-i.i c.args.d (f e) h (sym c.if-is-worn.ensures))
+    sym (c.loop-i.invariant.1 ∙ worn-here (map f xs) c.loop-i.i c.args.d (f e) h (sym c.if-is_worn.ensures))
 
 pub returns-then-i-d : goal.returns-then-i-d
 returns-then-i-d g c =
@@ -22,7 +22,7 @@ returns-then-i-d g c =
     let e = c.index-ends-i.result in
     let h = drop-read f xs i e (omega arith) c.index-ends-i.is in
     let z : c.args.d ≡ i = sym c.if-i-d.true in
-    sym (c.loop-i.invariant.1 ∙ ap (λ n. worn_out (drop i (map f xs)) (n - i)) z ∙ worn-last (map f xs) i (f e) h (sym c.if-is-worn.ensures))
+    sym (c.loop-i.invariant.1 ∙ ap (λ n. worn_out (drop i (map f xs)) (n - i)) z ∙ worn-last (map f xs) i (f e) h (sym c.if-is_worn.ensures))
 
 pub loop-i-preserved : goal.loop-i-preserved
 loop-i-preserved g c =
@@ -31,7 +31,7 @@ loop-i-preserved g c =
     let i = c.loop-i.i in
     let e = c.index-ends-i.result in
     let h = drop-read f xs i e (omega arith) c.index-ends-i.is in
-    (omega arith, c.loop-i.invariant.1 ∙ worn-step (map f xs) i c.args.d (f e) h (omega arith) (sym c.if-is-worn.ensures))
+    (omega arith, c.loop-i.invariant.1 ∙ worn-step (map f xs) i c.args.d (f e) h (omega arith) (sym c.if-is_worn.ensures))
 
 pub returns : goal.returns
 returns g c =

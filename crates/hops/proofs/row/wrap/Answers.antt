@@ -36,7 +36,7 @@ returns-in-None g c =
     let at : nth es d ≡ Some (f e) = nth_read f xs d e (omega arith) c.index-ends-d.is in
     let near : d < length es = simp length-map (omega arith) in
     let long : length b ≡ 509 = accepted-size b c.in-Ok.ensures.refuses in
-    let first : c.add-layer.new.payload ≡ x = c.add-layer.ensures ∙ ap (g.C.Cipher.added e.cipher e.layer) c.in-Ok.ensures.sealed in
+    let first : c.add_layer.new.payload ≡ x = c.add_layer.ensures ∙ ap (g.C.Cipher.added e.cipher e.layer) c.in-Ok.ensures.sealed in
     let stop : None ≡ taken_at R es d x = c.in-None.ensures.place ∙ ap (taken_at R es d) first in
     record {
       answer = (wrap-refusal R es d (f e) b None at near long stop, advanced-to R es d (f e) b (g.D.Digest.state c.in-Ok.taken) at c.in-Ok.ensures.taken);
@@ -57,7 +57,7 @@ returns-in-Some g c =
     let at : nth es d ≡ Some (f e) = nth_read f xs d e (omega arith) c.index-ends-d.is in
     let near : d < length es = simp length-map (omega arith) in
     let long : length b ≡ 509 = accepted-size b c.in-Ok.ensures.refuses in
-    let first : c.add-layer.new.payload ≡ x = c.add-layer.ensures ∙ ap (g.C.Cipher.added e.cipher e.layer) c.in-Ok.ensures.sealed in
+    let first : c.add_layer.new.payload ≡ x = c.add_layer.ensures ∙ ap (g.C.Cipher.added e.cipher e.layer) c.in-Ok.ensures.sealed in
     let j = c.in-Some.j in
     let stop : Some j ≡ taken_at R es d x = c.in-Some.ensures.place ∙ ap (taken_at R es d) first in
     record {

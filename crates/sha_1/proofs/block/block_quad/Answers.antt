@@ -6,7 +6,7 @@ pub returns : goal.returns
 returns c =
     let i : ℕ = 4 * c.args.j in
     quad-same
-    (c.block-word.ensures ∙ sym (schedule-word c.args.block.now i (omega arith)))
-    (c.block-word-2.ensures ∙ sym (schedule-word c.args.block.now (i + 1) (omega arith)))
-    (c.block-word-3.ensures ∙ sym (schedule-word c.args.block.now (i + 2) (omega arith)))
-    (c.block-word-4.ensures ∙ sym (schedule-word c.args.block.now (i + 3) (omega arith)))
+    (c.block_word.ensures ∙ sym (schedule-word c.args.block.now i (omega arith)))
+    (c.block_word-2.ensures ∙ sym (schedule-word c.args.block.now (i + 1) (omega arith)))
+    (c.block_word-3.ensures ∙ sym (schedule-word c.args.block.now (i + 2) (omega arith)))
+    (c.block_word-4.ensures ∙ sym (schedule-word c.args.block.now (i + 3) (omega arith)))

@@ -6,6 +6,6 @@ use Rattle.sha_1.proofs.digest.sha1.Goals as goal
 
 pub returns : goal.returns
 returns c =
-    c.digest-bytes.ensures
+    c.digest_bytes.ensures
     ∙ ap digest_bytes (c.finished.ensures ∙ ap finish c.seeded.ensures.state)
     ∙ finish-took (takes empty c.args.message.now) c.args.message.now (took-first c.args.message.now)

@@ -5,6 +5,6 @@ use Rattle.sha_1.proofs.laws.padded_blocks.Goals as goal
 
 pub returns : goal.returns
 returns c = record {
-  count = λ m e. padded-blocks m ∙ ap (λ (n : ℕ). 64 * block_count n) e ∙ ap (λ (k : ℕ). 64 * k) (sym c.block-count.ensures);
+  count = λ m e. padded-blocks m ∙ ap (λ (n : ℕ). 64 * block_count n) e ∙ ap (λ (k : ℕ). 64 * k) (sym c.block_count.ensures);
   laws = sha1-laws;
 }

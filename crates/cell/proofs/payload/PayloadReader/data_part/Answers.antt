@@ -10,7 +10,7 @@ returns c =
     let is : c.length-len.result ≡ length_of p = c.length-len.ensures in
     let whole = eq-eqb (length p) 509 (omega arith) in
     let fits = le-leb (length_of p) 498 (omega arith) in
-    let part = c.data-bytes.ensures in (
+    let part = c.data_bytes.ensures in (
       rw (whole, fits) refl,
       refl,
       is,

@@ -36,11 +36,11 @@ returns-else-bytes-room g c =
     let whole : c.put-else-bytes-room.new.block ≡ take fill c.args.self.now.block ++ take n bs
     = sym (take_all (fill + length (take n bs)) c.put-else-bytes-room.new.block (omega (arith, c.put-else-bytes-room.ensures.size, c.args.self.now.ok))) ∙ filled in
     record {
-      fed = ap (λ (j : ℕ). running_at (g.S.BlockFunction.view c.absorb-blocks.new.state) (take j c.put-else-bytes-room-2.new.block)) (omega arith)
-          ∙ ap (running_at (g.S.BlockFunction.view c.absorb-blocks.new.state)) kept
+      fed = ap (λ (j : ℕ). running_at (g.S.BlockFunction.view c.absorb_blocks.new.state) (take j c.put-else-bytes-room-2.new.block)) (omega arith)
+          ∙ ap (running_at (g.S.BlockFunction.view c.absorb_blocks.new.state)) kept
           ∙ feed-parts g.row.W g.S.BlockFunction.after (g.S.BlockFunction.view c.args.self.now.state) (g.S.BlockFunction.view c.absorb.new.self)
-          (g.S.BlockFunction.view c.absorb-blocks.new.state) (take fill c.args.self.now.block) bs (take n bs) later tail n
+          (g.S.BlockFunction.view c.absorb_blocks.new.state) (take fill c.args.self.now.block) bs (take n bs) later tail n
           (omega arith) (omega (arith, c.args.self.now.ok)) (omega (arith, c.args.self.now.ok))
-          refl (take_rest bs n) (take_rest later k) (c.absorb.ensures ∙ ap (g.S.BlockFunction.after (g.S.BlockFunction.view c.args.self.now.state)) whole) c.absorb-blocks.ensures;
+          refl (take_rest bs n) (take_rest later k) (c.absorb.ensures ∙ ap (g.S.BlockFunction.after (g.S.BlockFunction.view c.args.self.now.state)) whole) c.absorb_blocks.ensures;
       law = feed-law;
     }

@@ -6,4 +6,4 @@ use Rattle.sha_1.proofs.running.Sha1.first_four.Goals as goal
 
 pub returns : goal.returns
 unfolding first_four
-returns c = c.to-be-bytes.ensures ∙ ap (λ (h : HashValue). be32 h.h0) c.finished.ensures
+returns c = c.to_be_bytes.ensures ∙ ap (λ (h : HashValue). be32 h.h0) c.finished.ensures
