@@ -2,6 +2,9 @@
 use Rattle.std.specs.Prelude.{◌≡◌, ℕ, zero, suc, ◌+◌, ◌*◌, ◌<◌, ◌≤◌, List, [], ◌∷◌, ◌++◌, length, get_or, take, drop, refl}
 use Rattle.std.proofs.Common.{ap, arith}
 use Rattle.std.proofs.lemmas.List.{take-append-le, drop-append-le, length-drop, length-take-le, take_all, nil_from_length}
+use Rattle.queue.specs.declared.place.Place.{Place}
+use Rattle.queue.specs.Ring.{waiting}
+use Rattle.queue.proofs.Turns.{length-waiting}
 use Rattle.links.specs.Lines.{Whole}
 use Rattle.links.specs.Cuts.{cut}
 
@@ -37,3 +40,7 @@ cut-push (suc n) bytes cell e f =
     let le : 514 ≤ length bytes = omega arith in
     let rest : length (drop 514 bytes) ≡ n * 514 = simp length-drop (omega arith) in
     rw (take-append-le 514 bytes cell le, drop-append-le 514 bytes cell le) (ap (λ v. take 514 bytes ∷ v) (cut-push n (drop 514 bytes) cell rest f))
+
+-- what waits in slots is no more than they are
+pub waiting-bounded : (slots : List (List ℕ)) (p : Place) (n : ℕ) → length slots ≡ n → p.head < n → p.count ≤ n → length (waiting slots p) ≤ n
+waiting-bounded slots p n e head count = omega (arith, length-waiting slots p (omega arith) (omega arith))

@@ -80,9 +80,9 @@ impl Link for ByteLink {
 
     ghost cells = { λ l. cut (l.place.count / 514) (waiting l.ring l.place) };
 
-    ghost least = { first_of (Prim.search rules, Prim.grind (arith, Self.row.coded.inj)) };
+    ghost least = { Prim.search rules };
 
-    ghost most = { first_of (Prim.search rules, Prim.grind (arith, Self.row.coded.inj)) };
+    ghost most = { Prim.search rules };
 
     ghost bounded = { λ l. omega (arith, length_cut (l.place.count / 514) (waiting l.ring l.place), l.sound.3) };
 

@@ -2,8 +2,9 @@
 ghost use Rattle.std.specs.Prelude.{◌≡◌, ℕ, ◌-◌, ◌<◌, ◌≤◌, true, List, [], length, drop, vec_len, MatchOption, MatchResult, slice_index_or};
 ghost use Rattle.queue.specs.Ring.{waiting};
 ghost use Rattle.links.specs.Lines.{Whole};
+ghost use Rattle.links.specs.Wholes.{waiting-bounded};
 ghost use Rattle.links.specs.Kinds.{takes, new_link_error};
-ghost use Rattle.std.proofs.Common.{rules, arith};
+ghost use Rattle.std.proofs.Common.{rules, sym};
 
 use crate::fault::{LinkError, NewLinkError};
 use crate::link::Link;
@@ -94,13 +95,13 @@ impl Link for CellLink {
 
     ghost cells = { λ l. waiting l.slots.items l.place };
 
-    ghost least = { first_of (Prim.search rules, Prim.grind (arith, Self.row.coded.inj)) };
+    ghost least = { Prim.search rules };
 
-    ghost most = { first_of (Prim.search rules, Prim.grind (arith, Self.row.coded.inj)) };
+    ghost most = { Prim.search rules };
 
-    ghost bounded = { first_of (Prim.search rules, Prim.grind (arith, Self.row.coded.inj)) };
+    ghost bounded = { λ l. waiting-bounded l.slots.items l.place (vec_len l.slots) (sym l.slots.ok.0) l.sound.0 l.sound.1 };
 
-    ghost whole = { first_of (Prim.search rules, Prim.grind (arith, Self.row.coded.inj)) };
+    ghost whole = { λ l. l.whole };
 
     fn put(&mut self, cell: &[u8]) -> Result<(), LinkError> {
         if cell.len() != 514 {

@@ -7,43 +7,43 @@ use Rattle.model.specs.Messages.{streamless}
 use Rattle.model.specs.Streams.{Streams, StreamRecord, begun, Effect, becomes, frees, forbidden, is_of, effect, changed, in_front, applied, is_recorded, with_records, started, capacity, or_unchanged, client_sends, client_receives}
 use Rattle.streams.specs.Order.{EachOnce, Ascending, ClosingOrder, KeepsClosingOrder}
 
-abbrev IfSome : (List StreamRecord → Type 0) → Option (List StreamRecord) → Type 0
-IfSome P o = IfSome o P
+abbrev SomeHas : (List StreamRecord → Type 0) → Option (List StreamRecord) → Type 0
+SomeHas P o = IfSome o P
 
 -- what holds of every number holds after a command
 module _ (P : ℕ → Type 0) where
   abbrev Numbers : List StreamRecord → Type 0
   Numbers rs = All (λ r. P r.number) rs
 
-  numbers-changed : (r : StreamRecord) (rs : List StreamRecord) (e : Effect) → P r.number → Numbers rs → IfSome Numbers (changed r rs e)
+  numbers-changed : (r : StreamRecord) (rs : List StreamRecord) (e : Effect) → P r.number → Numbers rs → SomeHas Numbers (changed r rs e)
   numbers-changed r rs (becomes s) p ps = (p, ps)
   numbers-changed r rs frees p ps = ps
   numbers-changed r rs forbidden p ps = tt
 
-  numbers-in-front : (r : StreamRecord) (o : Option (List StreamRecord)) → P r.number → IfSome Numbers o → IfSome Numbers (in_front r o)
+  numbers-in-front : (r : StreamRecord) (o : Option (List StreamRecord)) → P r.number → SomeHas Numbers o → SomeHas Numbers (in_front r o)
   numbers-in-front r None p ps = tt
   numbers-in-front r (Some rs) p ps = (p, ps)
 
-  numbers-applied : (c n k : ℕ) (rs : List StreamRecord) → Numbers rs → IfSome Numbers (applied c n k rs)
+  numbers-applied : (c n k : ℕ) (rs : List StreamRecord) → Numbers rs → SomeHas Numbers (applied c n k rs)
   numbers-applied c n k [] ps = tt
   numbers-applied c n k (r ∷ rs) ps =
-      elim (is_of n k r) as (λ b. IfSome Numbers (cond b (changed r rs (effect r.state c)) (in_front r (applied c n k rs))))
+      elim (is_of n k r) as (λ b. SomeHas Numbers (cond b (changed r rs (effect r.state c)) (in_front r (applied c n k rs))))
       [ true ↦ numbers-changed r rs (effect r.state c) ps.0 ps.1 | false ↦ numbers-in-front r (applied c n k rs) ps.0 (numbers-applied c n k rs ps.1) ]
 
 -- so does the order
-ascending-changed : (r : StreamRecord) (rs : List StreamRecord) (e : Effect) → Ascending (r ∷ rs) → IfSome Ascending (changed r rs e)
+ascending-changed : (r : StreamRecord) (rs : List StreamRecord) (e : Effect) → Ascending (r ∷ rs) → SomeHas Ascending (changed r rs e)
 ascending-changed r rs (becomes s) up = up
 ascending-changed r rs frees up = up.1
 ascending-changed r rs forbidden up = tt
 
-ascending-in-front : (r : StreamRecord) (o : Option (List StreamRecord)) → IfSome (All (λ later. r.number < later.number)) o → IfSome Ascending o → IfSome Ascending (in_front r o)
+ascending-in-front : (r : StreamRecord) (o : Option (List StreamRecord)) → SomeHas (All (λ later. r.number < later.number)) o → SomeHas Ascending o → SomeHas Ascending (in_front r o)
 ascending-in-front r None above up = tt
 ascending-in-front r (Some rs) above up = (above, up)
 
-ascending-applied : (c n k : ℕ) (rs : List StreamRecord) → Ascending rs → IfSome Ascending (applied c n k rs)
+ascending-applied : (c n k : ℕ) (rs : List StreamRecord) → Ascending rs → SomeHas Ascending (applied c n k rs)
 ascending-applied c n k [] up = tt
 ascending-applied c n k (r ∷ rs) up =
-    elim (is_of n k r) as (λ b. IfSome Ascending (cond b (changed r rs (effect r.state c)) (in_front r (applied c n k rs)))) [
+    elim (is_of n k r) as (λ b. SomeHas Ascending (cond b (changed r rs (effect r.state c)) (in_front r (applied c n k rs)))) [
       | true ↦ ascending-changed r rs (effect r.state c) up
       | false ↦ ascending-in-front r (applied c n k rs) (numbers-applied (λ m. r.number < m) c n k rs up.0) (ascending-applied c n k rs up.1)
     ]
@@ -65,7 +65,7 @@ once-from-ascending (r ∷ rs) up = (not-recorded r.number rs up.0, once-from-as
 closing-order : (s : Streams) → Ascending s.records → All (λ r. r.number ≤ s.highest) s.records → ClosingOrder s
 closing-order s up most = record { once = once-from-ascending s.records up; ascending = up; highest = most }
 
-with-records-keeps : (s : Streams) (o : Option (List StreamRecord)) → IfSome Ascending o → IfSome (All (λ r. r.number ≤ s.highest)) o → KeepsClosingOrder s (or_unchanged s (with_records s o))
+with-records-keeps : (s : Streams) (o : Option (List StreamRecord)) → SomeHas Ascending o → SomeHas (All (λ r. r.number ≤ s.highest)) o → KeepsClosingOrder s (or_unchanged s (with_records s o))
 with-records-keeps s None up most was = was
 with-records-keeps s (Some rs) up most was = closing-order (record { records = rs; highest = s.highest }) up most
 

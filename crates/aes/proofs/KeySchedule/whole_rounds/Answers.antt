@@ -14,6 +14,6 @@ loop-i-init c = refl
 pub loop-i-preserved : goal.loop-i-preserved
 loop-i-preserved c =
     let e = rounds-more c.loop-i.i (used c.args.self.now) (block c.args.s) in
-    let r = c.whole-round-s.ensures in
-    let f = round-columns c.loop-i.s c.round-key.result c.whole-round-s.result r.column0 r.column1 r.column2 r.column3 in
+    let r = c.whole_round-s.ensures in
+    let f = round-columns c.loop-i.s c.round_key.result c.whole_round-s.result r.column0 r.column1 r.column2 r.column3 in
     cc

@@ -14,7 +14,7 @@ loop-done-preserved c =
     let done = c.loop-done.done in
     let n = c.if-len-done-lt512.n in
     let xs = c.loop-done.bytes in
-    let ys = c.xor-part.new.part in
+    let ys = c.xor_part.new.part in
     let whole : done % 16 ≡ 0 = c.loop-done.invariant.1 c.loop-done-test.true in
     let le : done + n ≤ length c.args.bytes.now =
     elim c.if-len-done-lt512.branch [ then-len-done-lt512 v ↦ omega (arith, v.n-is) | else-len-done-lt512 v ↦ omega (arith, v.n-is) ]

@@ -6,4 +6,4 @@ use Rattle.aes.proofs.block_cipher.final_round.Goals as goal
 pub returns : goal.returns
 unfolding bytes block last_round add_round_key shift_rows sub_bytes
 returns c =
-    same-columns c.last-column.ensures c.last-column-2.ensures c.last-column-3.ensures c.last-column-4.ensures
+    same-columns c.last_column.ensures c.last_column-2.ensures c.last_column-3.ensures c.last_column-4.ensures

@@ -10,8 +10,8 @@ unfolding block
 returns c =
     let xs = c.args.from.now in
     let small = c.fits-from in
-    same-columns (ap bytes c.word-at.ensures ∙ bytes-word_at xs 0 (omega arith) small)
-    (ap bytes c.word-at-2.ensures ∙ bytes-word_at xs 1 (omega arith) small)
-    (ap bytes c.word-at-3.ensures ∙ bytes-word_at xs 2 (omega arith) small)
-    (ap bytes c.word-at-4.ensures ∙ bytes-word_at xs 3 (omega arith) small)
+    same-columns (ap bytes c.word_at.ensures ∙ bytes-word_at xs 0 (omega arith) small)
+    (ap bytes c.word_at-2.ensures ∙ bytes-word_at xs 1 (omega arith) small)
+    (ap bytes c.word_at-3.ensures ∙ bytes-word_at xs 2 (omega arith) small)
+    (ap bytes c.word_at-4.ensures ∙ bytes-word_at xs 3 (omega arith) small)
     ∙ four-fours xs (omega arith)

@@ -3,5 +3,5 @@ use Rattle.aes.proofs.block_cipher.round_column.Goals as goal
 
 pub returns : goal.returns
 returns c =
-    let x = bytes-xor c.mixed-column.result c.args.k in
-    rw c.mixed-column.ensures at x
+    let x = bytes-xor c.mixed_column.result c.args.k in
+    rw c.mixed_column.ensures at x

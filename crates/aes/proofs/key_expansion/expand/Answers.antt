@@ -6,7 +6,7 @@ use Rattle.aes.proofs.key_expansion.expand.Goals as goal
 
 pub loop-i-preserved : goal.loop-i-preserved
 loop-i-preserved c =
-    let n = length-set c.loop-i.words c.loop-i.i c.word-at.result in
+    let n = length-set c.loop-i.words c.loop-i.i c.word_at.result in
     let f = take-counted-more (word_at c.args.key.now) c.loop-i.i c.loop-i.words (omega arith) c.loop-i.invariant.1 in
     (cc, cc)
 
@@ -22,12 +22,12 @@ loop-i-2-preserved c =
     let w = c.loop-i-2.words in
     let i = c.loop-i-2.i in
     let nk = c.args.nk in
-    let v = bit_xor (get_or w (i - nk) 0) c.added-word.result in
+    let v = bit_xor (get_or w (i - nk) 0) c.added_word.result in
     let n = length-set w i v in
     let m : length w ≡ 60 = c.loop-i-2.invariant.0 in (
       cc,
       take-extended-more nk i w (key_words nk c.args.key.now) v (omega arith) (omega arith) (omega arith) c.loop-i-2.invariant.1
-          (ap (bit_xor (get_or w (i - nk) 0)) c.added-word.ensures),
+          (ap (bit_xor (get_or w (i - nk) 0)) c.added_word.ensures),
     )
 
 pub returns : goal.returns

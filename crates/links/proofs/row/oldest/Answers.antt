@@ -4,11 +4,11 @@ use Rattle.links.specs.Rows.{rows, known, row, at_link}
 use Rattle.links.proofs.Answers.{seen, known-seen, oldest-answer, oldest-seen}
 use Rattle.links.proofs.row.oldest.Goals as goal
 
-pub returns-in-default : goal.returns-in-default
-returns-in-default g c =
+pub returns-in_default : goal.returns-in_default
+returns-in_default g c =
     let m = g.L.Link in
     let ls = c.args.links.now in
-    let none = known-seen m.cells ls c.args.j false c.in-default.ensures in
+    let none = known-seen m.cells ls c.args.j false c.in_default.ensures in
     record { answer = rw (none, c.fault.ensures) refl; shows = rw none refl }
 
 pub returns-in-Ok : goal.returns-in-Ok

@@ -6,25 +6,25 @@ use Rattle.links.proofs.Views.{row-set, row_same}
 use Rattle.links.proofs.Answers.{seen, known-seen, put-joins, put_keeps, pass-no-source, pass-no-target, pass-no-cell, pass-empty, pass-put}
 use Rattle.links.proofs.row.pass_on.Goals as goal
 
-pub returns-in-default : goal.returns-in-default
-returns-in-default g c =
+pub returns-in_default : goal.returns-in_default
+returns-in_default g c =
     let m = g.L.Link in
     let ls = c.args.links.now in
-    let none = known-seen m.cells ls c.args.from false c.in-default.ensures in
+    let none = known-seen m.cells ls c.args.from false c.in_default.ensures in
     record {
       answer = rw c.fault.ensures (sym (pass-no-source (capacities m ls) (rows m ls) c.args.from c.args.to c.args.cell.now none));
       after = refl;
       fixed = refl;
     }
 
-pub returns-in-default-index : goal.returns-in-default-index
-returns-in-default-index g c =
+pub returns-in_default-index : goal.returns-in_default-index
+returns-in_default-index g c =
     let m = g.L.Link in
     let ls = c.args.links.now in
     let source = known-seen m.cells ls c.args.from true c.in-Some.ensures.0 in
-    let none = known-seen m.cells ls c.args.to false c.in-default-index.ensures in
+    let none = known-seen m.cells ls c.args.to false c.in_default-index.ensures in
     record {
-      answer = rw c.fault-in-default-index.ensures (sym (pass-no-target (capacities m ls) (rows m ls) c.args.from c.args.to c.args.cell.now source none));
+      answer = rw c.fault-in_default-index.ensures (sym (pass-no-target (capacities m ls) (rows m ls) c.args.from c.args.to c.args.cell.now source none));
       after = refl;
       fixed = refl;
     }
@@ -42,8 +42,8 @@ returns-then-cell-ne514 g c =
       fixed = refl;
     }
 
-pub returns-then-is-empty : goal.returns-then-is-empty
-returns-then-is-empty g c =
+pub returns-then-is_empty : goal.returns-then-is_empty
+returns-then-is_empty g c =
     let m = g.L.Link in
     let ls = c.args.links.now in
     let e = c.in-Some.ensures in
@@ -51,10 +51,10 @@ returns-then-is-empty g c =
     let target = known-seen m.cells ls c.args.to true c.in-Some-index.ensures.0 in
     let here = seen m.cells [] ls c.args.from c.in-Some.source c.index-links-source.result e.1 e.2 in
     let first = c.index-links-source.result in
-    let zero : length (m.cells (get_or ls c.in-Some.source first)) ≡ 0 = c.is-empty.ensures.yes c.if-is-empty.true in
+    let zero : length (m.cells (get_or ls c.in-Some.source first)) ≡ 0 = c.is_empty.ensures.yes c.if-is_empty.true in
     let none : length (row (rows m ls) c.args.from) ≡ 0 = omega (arith, ap length here) in
     record {
-      answer = rw c.fault-then-is-empty.ensures
+      answer = rw c.fault-then-is_empty.ensures
           (sym (pass-empty (capacities m ls) (rows m ls) c.args.from c.args.to c.args.cell.now source target c.if-cell-ne514.false none));
       after = refl;
       fixed = refl;
@@ -82,7 +82,7 @@ returns-in-Ok g c =
     let there = seen m.cells [] ls to t y f.1 f.2 in
     let cap = seen m.capacity 0 ls to t y f.1 f.2 in
     let first = c.index-links-source.result in
-    let more : 0 < length (m.cells (get_or ls c.in-Some.source first)) = c.is-empty.ensures.no c.if-is-empty.false in
+    let more : 0 < length (m.cells (get_or ls c.in-Some.source first)) = c.is_empty.ensures.no c.if-is_empty.false in
     let some : 0 < length (row rs from) = omega (arith, ap length here) in
     let p = c.in-Ok.ensures in
     let old = get_or ls t y in
@@ -92,8 +92,8 @@ returns-in-Ok g c =
     row-set m.cells [] ls t y z f.2 (λ v. v ++ (cell ∷ [])) put_is ∙ ap (λ n. set rs n (get_or rs n [] ++ (cell ∷ []))) f.1 in
     let lt : s < length last = rw (length-set ls t z) e.2 in
     let x = c.index-links-source-in-Ok.result in
-    let w = c.drop-oldest.new.self in
-    let gone : m.cells w ≡ drop 1 (m.cells (get_or last s x)) = c.drop-oldest.ensures.after in
+    let w = c.drop_oldest.new.self in
+    let gone : m.cells w ≡ drop 1 (m.cells (get_or last s x)) = c.drop_oldest.ensures.after in
     let two = row-set m.cells [] last s x w lt (drop 1) gone in
     record {
       answer = ap (at_link to) answered
@@ -101,7 +101,7 @@ returns-in-Ok g c =
           ∙ sym (ap (λ v. at_link to (put_answer (get_or caps (to - 1) 0) v cell)) there)
           ∙ sym (pass-put caps rs from to cell source target c.if-cell-ne514.false some);
       after = two ∙ ap (λ v. set v s (drop 1 (get_or v s []))) one ∙ ap (λ n. set (joined rs to cell) n (drop 1 (get_or (joined rs to cell) n []))) e.1;
-      fixed = row_same m.capacity 0 last s x w lt c.drop-oldest.ensures.fixed
+      fixed = row_same m.capacity 0 last s x w lt c.drop_oldest.ensures.fixed
           ∙ row_same m.capacity 0 ls t y z f.2 p.fixed;
     }
 
@@ -125,7 +125,7 @@ returns-in-Err g c =
     let there = seen m.cells [] ls to t y f.1 f.2 in
     let cap = seen m.capacity 0 ls to t y f.1 f.2 in
     let first = c.index-links-source.result in
-    let more : 0 < length (m.cells (get_or ls c.in-Some.source first)) = c.is-empty.ensures.no c.if-is-empty.false in
+    let more : 0 < length (m.cells (get_or ls c.in-Some.source first)) = c.is_empty.ensures.no c.if-is_empty.false in
     let some : 0 < length (row rs from) = omega (arith, ap length here) in
     let p = c.in-Err.ensures in
     let old = get_or ls t y in

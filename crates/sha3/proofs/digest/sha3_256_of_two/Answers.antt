@@ -8,7 +8,7 @@ pub returns : goal.returns
 returns c =
     c.squeeze.ensures
     ∙ ap squeezed c.finished.ensures
-    ∙ finish-took (state_of c.take-both.new.digest) (c.args.first.now ++ c.args.second.now)
-    (c.take-both.ensures
+    ∙ finish-took (state_of c.take_both.new.digest) (c.args.first.now ++ c.args.second.now)
+    (c.take_both.ensures
     ∙ ap (λ (s : Sha3State). takes (takes s c.args.first.now) c.args.second.now) c.empty-digest.ensures
     ∙ took_more (takes empty c.args.first.now) c.args.first.now c.args.second.now (took-first c.args.first.now))

@@ -5,4 +5,4 @@ use Rattle.sha3.proofs.permutation.chi_of.Goals as goal
 
 pub returns : goal.returns
 returns c =
-    ap flat (planes-same c.chi-plane.ensures c.chi-plane-2.ensures c.chi-plane-3.ensures c.chi-plane-4.ensures c.chi-plane-5.ensures) ∙ chi-flat c.args.a
+    ap flat (planes-same c.chi_plane.ensures c.chi_plane-2.ensures c.chi_plane-3.ensures c.chi_plane-4.ensures c.chi_plane-5.ensures) ∙ chi-flat c.args.a

@@ -11,7 +11,7 @@ count = refl
 
 pub loop-i-preserved : goal.loop-i-preserved
 loop-i-preserved c =
-    rounds-more constants c.loop-i.i c.round-constant.result (flat c.loop-i.b) (flat c.round-of-b.result) _ (omega (arith, count)) (c.round-constant.ensures ∙ ap (λ (t : List ℕ). get_or t c.loop-i.i 0) (sym shifted)) c.round-of-b.ensures
+    rounds-more constants c.loop-i.i c.round_constant.result (flat c.loop-i.b) (flat c.round_of-b.result) _ (omega (arith, count)) (c.round_constant.ensures ∙ ap (λ (t : List ℕ). get_or t c.loop-i.i 0) (sym shifted)) c.round_of-b.ensures
     c.loop-i.invariant
 
 pub returns : goal.returns

@@ -12,4 +12,4 @@ returns c =
     = c.xor-4.ensures
     ∙ ap (λ (v : Plane). xor_plane v a.y4) (c.xor-3.ensures ∙ ap (λ (v : Plane). xor_plane v a.y3) (c.xor-2.ensures ∙ ap (λ (v : Plane). xor_plane v a.y2) c.xor.ensures)) in
     ap flat (planes-same c.xor-5.ensures c.xor-6.ensures c.xor-7.ensures c.xor-8.ensures c.xor-9.ensures)
-    ∙ theta-flat a c.theta-plane-d.result (c.theta-plane-d.ensures ∙ ap theta_plane k)
+    ∙ theta-flat a c.theta_plane-d.result (c.theta_plane-d.ensures ∙ ap theta_plane k)

@@ -7,8 +7,8 @@ use Rattle.sha3.specs.Sha3.{absorb_block}
 use Rattle.sha3.proofs.Ends.{end-part}
 use Rattle.sha3.proofs.sponge.pad.Goals as goal
 
-pub slice-bounds-feed-end : goal.slice-bounds-feed-end
-slice-bounds-feed-end c = simp length-set (omega arith)
+pub slice_bounds-feed-end : goal.slice_bounds-feed-end
+slice_bounds-feed-end c = simp length-set (omega arith)
 
 pub returns : goal.returns
 returns c =

@@ -7,5 +7,5 @@ pub returns-in-Data : goal.returns-in-Data
 unfolding is_data
 returns-in-Data c = rw c.in-Data.is refl
 
-pub returns-in-default : goal.returns-in-default
-returns-in-default c = other-data c.args.command c.in-default.not-Data
+pub returns-in_default : goal.returns-in_default
+returns-in_default c = other-data c.args.command c.in_default.not-Data

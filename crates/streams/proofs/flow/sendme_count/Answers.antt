@@ -7,5 +7,5 @@ pub returns-in-Sendme : goal.returns-in-Sendme
 unfolding is_sendme
 returns-in-Sendme c = record { count = rw c.in-Sendme.is refl; one = omega arith }
 
-pub returns-in-default : goal.returns-in-default
-returns-in-default c = record { count = other-sendme c.args.command c.in-default.not-Sendme; one = omega arith }
+pub returns-in_default : goal.returns-in_default
+returns-in_default c = record { count = other-sendme c.args.command c.in_default.not-Sendme; one = omega arith }

@@ -10,15 +10,16 @@ use Rattle.links.proofs.cell_link.CellLinkLink.drop_oldest.Goals as goal
 gone : (xs ys : List (List ℕ)) (p q : Place) → ys ≡ xs → waiting ys q ≡ drop 1 (waiting ys p) → waiting xs q ≡ drop 1 (waiting xs p)
 gone xs ys p q same e = ap (λ v. waiting v q) (sym same) ∙ e ∙ ap (λ v. drop 1 (waiting v p)) same
 
-pub invariant-of-self : goal.invariant-of-self
-invariant-of-self c =
+pub invariant_of-self : goal.invariant_of-self
+invariant_of-self c =
     let l = c.args.self.now in
     let e = c.in-Some.ensures in
     let same : length c.deref.result.now ≡ length (vec_items l.slots) = ap length c.deref.ensures.value in
-    let count : c.in-Some.place.count ≡ l.place.count - 1 = e.2 in (
-      (omega (arith, e.1, l.slots.ok.0), omega (arith, l.sound.1), l.sound.2),
-      (subst Whole (sym (gone (vec_items l.slots) c.deref.result.now l.place c.in-Some.place c.deref.ensures.value e.3)) (whole_drop (waiting (vec_items l.slots) l.place) l.whole), tt),
-    )
+    let count : c.in-Some.place.count ≡ l.place.count - 1 = e.2 in
+    record {
+      sound = (omega (arith, e.1, l.slots.ok.0), omega (arith, l.sound.1), l.sound.2);
+      whole = subst Whole (sym (gone (vec_items l.slots) c.deref.result.now l.place c.in-Some.place c.deref.ensures.value e.3)) (whole_drop (waiting (vec_items l.slots) l.place) l.whole);
+    }
 
 pub returns : goal.returns
 returns c =
@@ -32,10 +33,10 @@ returns c =
       fixed = refl;
     }
 
-pub returns-in-default : goal.returns-in-default
-returns-in-default c =
+pub returns-in_default : goal.returns-in_default
+returns-in_default c =
     let l = c.args.self.now in
-    let zero : l.place.count ≡ 0 = c.in-default.ensures in
+    let zero : l.place.count ≡ 0 = c.in_default.ensures in
     let long = length-cells l in
     let none = drop-none (waiting (vec_items l.slots) l.place) (omega arith) in
     record { answer = none.0; after = none.1; fixed = refl }

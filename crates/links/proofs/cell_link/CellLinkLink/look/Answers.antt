@@ -14,13 +14,13 @@ returns c =
     let shown = look-some (waiting (vec_items l.slots) l.place) buffer c.if-cell-ne514.false (omega arith) in
     record {
       answer = shown.0;
-      shows = c.copy-from-slice.ensures.after ∙ e.1 buffer ∙ ap (λ v. get_or (waiting v l.place) 0 buffer) c.deref.ensures.value ∙ shown.1;
+      shows = c.copy_from_slice.ensures.after ∙ e.1 buffer ∙ ap (λ v. get_or (waiting v l.place) 0 buffer) c.deref.ensures.value ∙ shown.1;
     }
 
-pub returns-in-default : goal.returns-in-default
-returns-in-default c =
+pub returns-in_default : goal.returns-in_default
+returns-in_default c =
     let l = c.args.self.now in
-    let zero : l.place.count ≡ 0 = c.in-default.ensures in
+    let zero : l.place.count ≡ 0 = c.in_default.ensures in
     let long = length-cells l in
     let none = look_none (waiting (vec_items l.slots) l.place) c.args.cell.now c.if-cell-ne514.false (omega arith) in
     record { answer = none.0; shows = none.1 }

@@ -3,4 +3,4 @@ use Rattle.sha3.specs.Keccak.{keccak}
 use Rattle.sha3.proofs.sponge.KeccakStateBlockFunction136.absorb.Goals as goal
 
 pub returns : goal.returns
-returns c = c.permuted-self.ensures ∙ ap keccak c.xor-block.ensures
+returns c = c.permuted-self.ensures ∙ ap keccak c.xor_block.ensures

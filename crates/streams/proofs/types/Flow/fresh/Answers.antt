@@ -6,7 +6,7 @@ use Rattle.streams.proofs.types.Flow.fresh.Goals as goal
 pub returns : goal.returns
 unfolding is_data is_sendme client_sends streamless
 returns c = record {
-  fresh = c.at-first.ensures;
+  fresh = c.at_first.ensures;
   worked = record {
     window = refl;
     data-1000 = λ s. refl;

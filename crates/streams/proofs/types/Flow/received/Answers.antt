@@ -3,13 +3,13 @@ use Rattle.std.proofs.Common.{arith}
 use Rattle.streams.proofs.Windows.{received-fits}
 use Rattle.streams.proofs.types.Flow.received.Goals as goal
 
-pub overflow-add-self : goal.overflow-add-self
-overflow-add-self c = let fit = received-fits c.args.command c.args.self.now c.if-overruns.ensures in omega (arith, fit.0, c.raise.ensures)
+pub overflow_add-self : goal.overflow_add-self
+overflow_add-self c = let fit = received-fits c.args.command c.args.self.now c.if-overruns.ensures in omega (arith, fit.0, c.raise.ensures)
 
-pub overflow-add-self-2 : goal.overflow-add-self-2
-overflow-add-self-2 c = let fit = received-fits c.args.command c.args.self.now c.if-overruns.ensures in omega (arith, fit.1, c.data-count.ensures)
+pub overflow_add-self-2 : goal.overflow_add-self-2
+overflow_add-self-2 c = let fit = received-fits c.args.command c.args.self.now c.if-overruns.ensures in omega (arith, fit.1, c.data_count.ensures)
 
-pub invariant-of-self : goal.invariant-of-self
-invariant-of-self c =
+pub invariant_of-self : goal.invariant_of-self
+invariant_of-self c =
     let fit = received-fits c.args.command c.args.self.now c.if-overruns.ensures in
-    ((omega (arith, fit.0, c.raise.ensures), omega (arith, fit.1, c.data-count.ensures), c.args.self.now.small.2), tt)
+    record { small = (omega (arith, fit.0, c.raise.ensures), omega (arith, fit.1, c.data_count.ensures), c.args.self.now.small.2) }

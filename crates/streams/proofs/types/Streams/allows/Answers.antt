@@ -10,10 +10,10 @@ returns-in-Forbidden c =
     forbidden-at _ c.in-Some.i (record_seen (get_or c.args.self.now.records c.in-Some.i blank)) _ c.in-Forbidden.ensures.effect
     ∙ sym (ap is_some (applied-at (command_byte c.args.command) c.args.stream c.args.hop c.args.self.now.records c.args.self.now.count c.in-Some.i found.0 (omega arith) found.1 found.2))
 
-pub returns-in-default : goal.returns-in-default
-returns-in-default c =
+pub returns-in_default : goal.returns-in_default
+returns-in_default c =
     let found = c.in-Some.ensures in
-    allowed_at _ c.in-Some.i (record_seen (get_or c.args.self.now.records c.in-Some.i blank)) _ (λ e. c.in-default.not-Forbidden (c.apply.ensures.effect ∙ e))
+    allowed_at _ c.in-Some.i (record_seen (get_or c.args.self.now.records c.in-Some.i blank)) _ (λ e. c.in_default.not-Forbidden (c.apply.ensures.effect ∙ e))
     ∙ sym (ap is_some (applied-at (command_byte c.args.command) c.args.stream c.args.hop c.args.self.now.records c.args.self.now.count c.in-Some.i found.0 (omega arith) found.1 found.2))
 
 pub returns-in-None : goal.returns-in-None

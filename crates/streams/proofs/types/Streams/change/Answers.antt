@@ -15,17 +15,17 @@ returns-in-Freed c =
     ∙ freed-at c.args.self.now.records c.args.self.now.count c.in-Some.i c.args.self.now.highest _ found.0 le _ _ c.remove.ensures.records (sym c.in-Freed.ensures.effect)
     ∙ sym (ap (λ o. or_unchanged s (with_records s o)) (applied-at (command_byte c.args.command) c.args.stream c.args.hop c.args.self.now.records c.args.self.now.count c.in-Some.i found.0 le found.1 found.2))
 
-pub returns-in-default-apply : goal.returns-in-default-apply
+pub returns-in_default-apply : goal.returns-in_default-apply
 unfolding streams_seen
-returns-in-default-apply c =
+returns-in_default-apply c =
     let found = c.in-Some.ensures in
     let le : c.args.self.now.count ≤ length c.args.self.now.records = omega arith in
     let s = streams_seen c.args.self.now in
-    kept_at c.args.self.now.records c.args.self.now.count c.in-Some.i c.args.self.now.highest _ found.0 le _ c.apply.ensures.after (λ e. c.in-default-apply.not-Freed (c.apply.ensures.effect ∙ e))
+    kept_at c.args.self.now.records c.args.self.now.count c.in-Some.i c.args.self.now.highest _ found.0 le _ c.apply.ensures.after (λ e. c.in_default-apply.not-Freed (c.apply.ensures.effect ∙ e))
     ∙ sym (ap (λ o. or_unchanged s (with_records s o)) (applied-at (command_byte c.args.command) c.args.stream c.args.hop c.args.self.now.records c.args.self.now.count c.in-Some.i found.0 le found.1 found.2))
 
-pub returns-in-default : goal.returns-in-default
+pub returns-in_default : goal.returns-in_default
 unfolding streams_seen
-returns-in-default c =
+returns-in_default c =
     let s = streams_seen c.args.self.now in
-    sym (ap (λ o. or_unchanged s (with_records s o)) (applied-none (command_byte c.args.command) c.args.stream c.args.hop c.args.self.now.records c.args.self.now.count c.in-default.ensures))
+    sym (ap (λ o. or_unchanged s (with_records s o)) (applied-none (command_byte c.args.command) c.args.stream c.args.hop c.args.self.now.records c.args.self.now.count c.in_default.ensures))

@@ -6,7 +6,7 @@ use Rattle.streams.proofs.Records.{may-begin-seen}
 use Rattle.streams.proofs.types.Streams.client_may_send.Goals as goal
 
 pub returns-in-Begin : goal.returns-in-Begin
-returns-in-Begin c = c.may-begin.ensures ∙ may-begin-seen c.args.stream c.args.self.now ∙ passes-if _ _ ∙ sym (ap (λ o. not (is_broken o)) (client-begins c.args.hop c.args.stream (streams_seen c.args.self.now) c.args.command c.in-Begin.is))
+returns-in-Begin c = c.may_begin.ensures ∙ may-begin-seen c.args.stream c.args.self.now ∙ passes-if _ _ ∙ sym (ap (λ o. not (is_broken o)) (client-begins c.args.hop c.args.stream (streams_seen c.args.self.now) c.args.command c.in-Begin.is))
 
-pub returns-in-default : goal.returns-in-default
-returns-in-default c = c.relay-may-send.ensures ∙ sym (ap (λ o. not (is_broken o)) (client-sends-other c.args.hop c.args.stream (streams_seen c.args.self.now) c.args.command c.in-default.not-Begin))
+pub returns-in_default : goal.returns-in_default
+returns-in_default c = c.relay_may_send.ensures ∙ sym (ap (λ o. not (is_broken o)) (client-sends-other c.args.hop c.args.stream (streams_seen c.args.self.now) c.args.command c.in_default.not-Begin))

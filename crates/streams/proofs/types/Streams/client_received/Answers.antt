@@ -9,10 +9,10 @@ use Rattle.streams.proofs.types.Streams.client_received.Goals as goal
 pub returns-in-Sendme : goal.returns-in-Sendme
 returns-in-Sendme c =
     let after = sym (ap (or_unchanged (streams_seen c.args.self.now)) (receives-alone c.args.hop c.args.stream (streams_seen c.args.self.now) c.args.command c.in-Sendme.is)) in
-    record { mark = c.client-mark-late.ensures; after = after; order = receives-in-order c.args.hop (command_byte c.args.command) c.args.stream (streams_seen c.args.self.now) _ after }
+    record { mark = c.client_mark-late.ensures; after = after; order = receives-in-order c.args.hop (command_byte c.args.command) c.args.stream (streams_seen c.args.self.now) _ after }
 
-pub returns-in-default : goal.returns-in-default
+pub returns-in_default : goal.returns-in_default
 unfolding streams_seen
-returns-in-default c =
-    let after = c.change.ensures ∙ sym (ap (or_unchanged (streams_seen c.args.self.now)) (receives-on-record c.args.hop c.args.stream (streams_seen c.args.self.now) c.args.command c.in-default.not-Sendme c.in-default.not-Drop)) in
-    record { mark = c.client-mark-late.ensures; after = after; order = receives-in-order c.args.hop (command_byte c.args.command) c.args.stream (streams_seen c.args.self.now) _ after }
+returns-in_default c =
+    let after = c.change.ensures ∙ sym (ap (or_unchanged (streams_seen c.args.self.now)) (receives-on-record c.args.hop c.args.stream (streams_seen c.args.self.now) c.args.command c.in_default.not-Sendme c.in_default.not-Drop)) in
+    record { mark = c.client_mark-late.ensures; after = after; order = receives-in-order c.args.hop (command_byte c.args.command) c.args.stream (streams_seen c.args.self.now) _ after }

@@ -10,7 +10,7 @@ returns-then-stream-eq0 c = grind (arith, nat_tests)
 
 pub returns-then-not-has : goal.returns-then-not-has
 unfolding streams_seen
-returns-then-not-has c = grind (arith, nat_tests, c.has-room.ensures, c.has.ensures, length_seen c.args.self.now)
+returns-then-not-has c = grind (arith, nat_tests, c.has_room.ensures, c.has.ensures, length_seen c.args.self.now)
 
 pub returns-else-not-has : goal.returns-else-not-has
 unfolding streams_seen

@@ -6,17 +6,17 @@ use Rattle.streams.proofs.Records.{room-seen}
 use Rattle.streams.proofs.types.Streams.relay_received.Goals as goal
 
 pub start-requires : goal.start-requires
-start-requires c = room-seen c.args.self.now (room-to-start c.args.stream (streams_seen c.args.self.now) c.if-not-may-start.ensures)
+start-requires c = room-seen c.args.self.now (room-to-start c.args.stream (streams_seen c.args.self.now) c.if-not-may_start.ensures)
 
-pub returns-then-not-may-start : goal.returns-then-not-may-start
-returns-then-not-may-start c =
-    let late = relay-begins c.args.hop c.args.stream (streams_seen c.args.self.now) c.args.command c.in-Begin.is ∙ if-not _ _ c.if-not-may-start.ensures in
+pub returns-then-not-may_start : goal.returns-then-not-may_start
+returns-then-not-may_start c =
+    let late = relay-begins c.args.hop c.args.stream (streams_seen c.args.self.now) c.args.command c.in-Begin.is ∙ if-not _ _ c.if-not-may_start.ensures in
     record { mark = sym (ap mark_of late); after = sym (ap (or_unchanged (streams_seen c.args.self.now)) late) }
 
-pub returns-else-not-may-start : goal.returns-else-not-may-start
+pub returns-else-not-may_start : goal.returns-else-not-may_start
 unfolding streams_seen
-returns-else-not-may-start c =
-    let new = relay-begins c.args.hop c.args.stream (streams_seen c.args.self.now) c.args.command c.in-Begin.is ∙ if-so _ _ c.if-not-may-start.ensures in
+returns-else-not-may_start c =
+    let new = relay-begins c.args.hop c.args.stream (streams_seen c.args.self.now) c.args.command c.in-Begin.is ∙ if-so _ _ c.if-not-may_start.ensures in
     record {
       mark = sym (ap mark_of new);
       after =
@@ -25,9 +25,9 @@ returns-else-not-may-start c =
           ∙ sym (ap (or_unchanged (streams_seen c.args.self.now)) new);
     }
 
-pub returns-in-default : goal.returns-in-default
-returns-in-default c =
+pub returns-in_default : goal.returns-in_default
+returns-in_default c =
     record {
-      mark = c.client-received.ensures.mark ∙ sym (ap mark_of (relay-receives-other c.args.hop c.args.stream (streams_seen c.args.self.now) c.args.command c.in-default.not-Begin));
-      after = c.client-received.ensures.after ∙ sym (ap (or_unchanged (streams_seen c.args.self.now)) (relay-receives-other c.args.hop c.args.stream (streams_seen c.args.self.now) c.args.command c.in-default.not-Begin));
+      mark = c.client_received.ensures.mark ∙ sym (ap mark_of (relay-receives-other c.args.hop c.args.stream (streams_seen c.args.self.now) c.args.command c.in_default.not-Begin));
+      after = c.client_received.ensures.after ∙ sym (ap (or_unchanged (streams_seen c.args.self.now)) (relay-receives-other c.args.hop c.args.stream (streams_seen c.args.self.now) c.args.command c.in_default.not-Begin));
     }

@@ -7,6 +7,6 @@ use Rattle.streams.proofs.types.Streams.relay_sent.Goals as goal
 pub returns-in-Sendme : goal.returns-in-Sendme
 returns-in-Sendme c = unchanged-if _ _ ∙ sym (ap (or_unchanged (streams_seen c.args.self.now)) (sends-alone c.args.hop c.args.stream (streams_seen c.args.self.now) c.args.command c.in-Sendme.is))
 
-pub returns-in-default : goal.returns-in-default
+pub returns-in_default : goal.returns-in_default
 unfolding streams_seen
-returns-in-default c = c.change.ensures ∙ sym (ap (or_unchanged (streams_seen c.args.self.now)) (sends-on-record c.args.hop c.args.stream (streams_seen c.args.self.now) c.args.command c.in-default.not-Sendme c.in-default.not-Drop))
+returns-in_default c = c.change.ensures ∙ sym (ap (or_unchanged (streams_seen c.args.self.now)) (sends-on-record c.args.hop c.args.stream (streams_seen c.args.self.now) c.args.command c.in_default.not-Sendme c.in_default.not-Drop))
