@@ -11,5 +11,5 @@ returns c =
     let n : length (right p) ≡ 477 = simp length-drop (omega arith) in
     let a = take_all 477 (right p) (omega arith) in
     let b = drop_all 477 (right p) (omega arith) in
-    let e = append-nil c.xor-stream-under.new.bytes in
+    let e = append-nil c.xor_stream_under.new.bytes in
     cc

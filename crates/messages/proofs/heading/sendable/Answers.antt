@@ -15,8 +15,8 @@ returns-in-Sendme c =
 
 pub returns-then-not-goes : goal.returns-then-not-goes
 returns-then-not-goes c =
-    record { test = c.if-not-goes.ensures ∙ goes-sends c.args.way c.in-Some.command c.in-default.not-Sendme ∙ ap (may_send c.args.way) c.in-Some.ensures.back; command = tt }
+    record { test = c.if-not-goes.ensures ∙ goes-sends c.args.way c.in-Some.command c.in_default.not-Sendme ∙ ap (may_send c.args.way) c.in-Some.ensures.back; command = tt }
 
 pub returns-else-not-goes : goal.returns-else-not-goes
 returns-else-not-goes c =
-    record { test = c.if-not-goes.ensures ∙ goes-sends c.args.way c.in-Some.command c.in-default.not-Sendme ∙ ap (may_send c.args.way) c.in-Some.ensures.back; command = c.in-Some.ensures.back }
+    record { test = c.if-not-goes.ensures ∙ goes-sends c.args.way c.in-Some.command c.in_default.not-Sendme ∙ ap (may_send c.args.way) c.in-Some.ensures.back; command = c.in-Some.ensures.back }

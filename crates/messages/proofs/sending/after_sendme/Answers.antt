@@ -11,7 +11,7 @@ unfolding is_data
 returns c =
     let old = flow_seen c.args.flow in
     let mid = flow_seen c.acknowledged.new.self in
-    let less : mid ≡ acknowledged old = c.acknowledged.ensures.after ∙ cond-true c.acknowledged.result (acknowledged old) old (c.acknowledged.ensures.allowed ∙ not_from_false _ c.requires.0) in
+    let less : mid ≡ acknowledged old = c.acknowledged.ensures.after ∙ cond-true c.acknowledged.result (acknowledged old) old (c.acknowledged.ensures.allowed ∙ not_from_false _ c.requires.step_value) in
     let may : c.posted.result ≡ true =
-    c.posted.ensures.allowed ∙ and_from (not (ltb mid.window 0)) (not (leb message_limit mid.sent)) (not_from_false _ (le-ltb mid.window 0 (omega arith))) (not_from_false _ (ap (λ (v : Flow). leb message_limit v.sent) less ∙ c.requires.1)) in
+    c.posted.ensures.allowed ∙ and_from (not (ltb mid.window 0)) (not (leb message_limit mid.sent)) (not_from_false _ (le-ltb mid.window 0 (omega arith))) (not_from_false _ (ap (λ (v : Flow). leb message_limit v.sent) less ∙ c.requires.flow_value)) in
     c.posted.ensures.after ∙ cond-true c.posted.result (posted 5 mid) mid may ∙ ap (posted 5) less

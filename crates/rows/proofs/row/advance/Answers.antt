@@ -25,14 +25,14 @@ returns g c =
     let d = c.args.d in
     let s = g.D.Digest.state c.args.taken in
     let x = c.index-ends-d.result in
-    let y = c.take-on.new.self in
-    let last = c.move-up-to.new.ends in
-    let free : worn_out es d ≡ false = sym c.if-worn-out.ensures in
+    let y = c.take_on.new.self in
+    let last = c.move_up_to.new.ends in
+    let free : worn_out es d ≡ false = sym c.if-worn_out.ensures in
     let near : d < length es = simp length-map (omega arith) in
-    let at : nth (moved_to d es) d ≡ Some (f x) = ap (λ v. nth v d) (sym c.move-up-to.ensures) ∙ nth_read f last d x (omega arith) c.index-ends-d.is in
+    let at : nth (moved_to d es) d ≡ Some (f x) = ap (λ v. nth v d) (sym c.move_up_to.ensures) ∙ nth_read f last d x (omega arith) c.index-ends-d.is in
     let fresh : leb layer_limit x.layer ≡ false = fresh_at es d d (f x) (omega arith) free (sym (nth-moved es d) ∙ at) in
     let new : f y ≡ took_to (f x) s =
-    c.take-on.ensures ∙ ap (λ (v : End g.row.C.Denot g.row.D.Denot). cond (leb layer_limit v.layer) (f v) (took_to (f v) s)) (sym c.index-ends-d.is)
+    c.take_on.ensures ∙ ap (λ (v : End g.row.C.Denot g.row.D.Denot). cond (leb layer_limit v.layer) (f v) (took_to (f v) s)) (sym c.index-ends-d.is)
     ∙ cond-false (leb layer_limit x.layer) (f x) (took_to (f x) s) fresh in
-    map-set f last d y ∙ ap (set (map f last) d) new ∙ ap (λ v. set v d (took_to (f x) s)) c.move-up-to.ensures ∙ move-last es d (f x) s at
+    map-set f last d y ∙ ap (set (map f last) d) new ∙ ap (λ v. set v d (took_to (f x) s)) c.move_up_to.ensures ∙ move-last es d (f x) s at
     ∙ sym (cond-true (can_advance es d) (advanced_to es d s) es (can-advance es d near free))

@@ -19,17 +19,17 @@ hops-preserved g c =
     let j = c.hops.j in
     let e = c.index-ends-j.result in
     let q = c.hops.payload in
-    let p = c.remove-layer.new.payload in
+    let p = c.remove_layer.new.payload in
     let lt : j < length xs = omega arith in
-    let off : p ≡ R.removed (f e).cipher (f e).layer q = c.remove-layer.ensures in
+    let off : p ≡ R.removed (f e).cipher (f e).layer q = c.remove_layer.ensures in
     let long : length p ≡ 509 = omega arith in
     let test : is_some c.if-test.passed ≡ (eqb (length p) 509 && recognises R.tags (f e).digest p) =
     elim c.if-test.branch [
-      | then-test w ↦ ap is_some w.passed-is ∙ sym (unchecked R.tags (f e).digest p (sym c.check-is-zero.ensures ∙ w.if-test.true))
-      | else-test w ↦ ap is_some w.passed-is ∙ w.match-tag-passed.ensures.test ∙ checked R.tags (f e).digest p (sym c.check-is-zero.ensures ∙ w.if-test.false)
+      | then-test w ↦ ap is_some w.passed-is ∙ sym (unchecked R.tags (f e).digest p (sym c.check_is_zero.ensures ∙ w.if-test.true))
+      | else-test w ↦ ap is_some w.passed-is ∙ w.match_tag-passed.ensures.test ∙ checked R.tags (f e).digest p (sym c.check_is_zero.ensures ∙ w.if-test.false)
     ] in
     let fails : recognises R.tags (f e).digest (R.removed (f e).cipher (f e).layer q) ≡ false =
-    ap (recognises R.tags (f e).digest) (sym off) ∙ sym (at_length p (recognises R.tags (f e).digest p) long) ∙ sym test ∙ ap is_some c.in-default.is in (
+    ap (recognises R.tags (f e).digest) (sym off) ∙ sym (at_length p (recognises R.tags (f e).digest p) long) ∙ sym test ∙ ap is_some c.in_default.is in (
       omega arith,
       off ∙ ap (R.removed (f e).cipher (f e).layer) c.hops.invariant.1 ∙ sym (unwrap-step R es j (f e) c.args.payload.now (nth_read f xs j e lt c.index-ends-j.is)),
       c.hops.invariant.2 ∙ seek-step R es j (f e) q false (drop-read f xs j e lt c.index-ends-j.is) fails ∙ ap (λ p. past (j + 1) (recognised_at R (drop (j + 1) es) p)) (sym off),
@@ -62,14 +62,14 @@ returns-in-Some g c =
     let j = c.hops.j in
     let e = c.index-ends-j.result in
     let q = c.hops.payload in
-    let p = c.remove-layer.new.payload in
+    let p = c.remove_layer.new.payload in
     let lt : j < length xs = omega arith in
-    let off : p ≡ R.removed (f e).cipher (f e).layer q = c.remove-layer.ensures in
+    let off : p ≡ R.removed (f e).cipher (f e).layer q = c.remove_layer.ensures in
     let long : length p ≡ 509 = omega arith in
     let test : is_some c.if-test.passed ≡ (eqb (length p) 509 && recognises R.tags (f e).digest p) =
     elim c.if-test.branch [
-      | then-test w ↦ ap is_some w.passed-is ∙ sym (unchecked R.tags (f e).digest p (sym c.check-is-zero.ensures ∙ w.if-test.true))
-      | else-test w ↦ ap is_some w.passed-is ∙ w.match-tag-passed.ensures.test ∙ checked R.tags (f e).digest p (sym c.check-is-zero.ensures ∙ w.if-test.false)
+      | then-test w ↦ ap is_some w.passed-is ∙ sym (unchecked R.tags (f e).digest p (sym c.check_is_zero.ensures ∙ w.if-test.true))
+      | else-test w ↦ ap is_some w.passed-is ∙ w.match_tag-passed.ensures.test ∙ checked R.tags (f e).digest p (sym c.check_is_zero.ensures ∙ w.if-test.false)
     ] in
     let holds : recognises R.tags (f e).digest (R.removed (f e).cipher (f e).layer q) ≡ true =
     ap (recognises R.tags (f e).digest) (sym off) ∙ sym (at_length p (recognises R.tags (f e).digest p) long) ∙ sym test ∙ ap is_some c.in-Some.is in
@@ -77,7 +77,7 @@ returns-in-Some g c =
     let took : Took c.if-test.passed =
     elim c.if-test.branch [
       | then-test w ↦ subst Took (sym w.passed-is) tt
-      | else-test w ↦ subst Took (sym w.passed-is) w.match-tag-passed.ensures.taken
+      | else-test w ↦ subst Took (sym w.passed-is) w.match_tag-passed.ensures.taken
     ] in
     let at : nth es j ≡ Some (f e) = nth_read f xs j e lt c.index-ends-j.is in
     let found : Some j ≡ recognised_at R es c.args.payload.now = sym (c.hops.invariant.2 ∙ seek-step R es j (f e) q true (drop-read f xs j e lt c.index-ends-j.is) holds) in

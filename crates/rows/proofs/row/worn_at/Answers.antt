@@ -6,14 +6,14 @@ use Rattle.hops.specs.Views.{end_seen}
 use Rattle.rows.proofs.Walks.{past, past-nowhere, drop-read, worn-at-step}
 use Rattle.rows.proofs.row.worn_at.Goals as goal
 
-pub returns-then-is-worn : goal.returns-then-is-worn
-returns-then-is-worn g c =
+pub returns-then-is_worn : goal.returns-then-is_worn
+returns-then-is_worn g c =
     let f = end_seen {C = g.row.C.Denot} g.D.Digest in
     let xs = c.args.ends.now in
     let e = c.index-ends-j.result in
     let h = drop-read f xs c.loop-j.j e (omega arith) c.index-ends-j.is in
     record {
-      first = sym (c.loop-j.invariant ∙ worn-at-step (map f xs) c.loop-j.j (f e) true h (sym c.if-is-worn.ensures));
+      first = sym (c.loop-j.invariant ∙ worn-at-step (map f xs) c.loop-j.j (f e) true h (sym c.if-is_worn.ensures));
       within = omega arith;
     }
 
@@ -23,7 +23,7 @@ loop-j-preserved g c =
     let xs = c.args.ends.now in
     let e = c.index-ends-j.result in
     let h = drop-read f xs c.loop-j.j e (omega arith) c.index-ends-j.is in
-    c.loop-j.invariant ∙ worn-at-step (map f xs) c.loop-j.j (f e) false h (sym c.if-is-worn.ensures)
+    c.loop-j.invariant ∙ worn-at-step (map f xs) c.loop-j.j (f e) false h (sym c.if-is_worn.ensures)
 
 pub returns : goal.returns
 returns g c =

@@ -20,16 +20,16 @@ post-requires g c =
     let f = end_seen {C = g.row.C.Denot} g.D.Digest in
     let old = flow_seen c.flow-flow.result in
     let due : c.acknowledged.result ≡ true = c.acknowledged.ensures.allowed ∙ sym c.if-not-due.ensures in
-    let after : flow_seen c.acknowledged.new.self ≡ acknowledged old = c.acknowledged.ensures.after ∙ cond-true c.acknowledged.result (acknowledged old) old due in (
-      c.requires.0,
-      c.requires.1,
-      record {
+    let after : flow_seen c.acknowledged.new.self ≡ acknowledged old = c.acknowledged.ensures.after ∙ cond-true c.acknowledged.result (acknowledged old) old due in (record {
+      d_in_bounds = c.requires.d_in_bounds;
+      payload_len = c.requires.payload_len;
+      may_send = record {
         fits = omega arith;
         window = le-ltb (flow_seen c.acknowledged.new.self).window 0 (omega arith);
         unspent = ap (λ (v : Flow). leb message_limit v.sent) after ∙ sym c.if-spent.ensures;
-        fresh = ap (λ (v : List (End g.row.C.Denot g.row.D.Denot)). worn_out (map f v) c.args.d) (sym c.deref.ensures.value) ∙ sym c.if-worn-out.ensures;
-      },
-    )
+        fresh = ap (λ (v : List (End g.row.C.Denot g.row.D.Denot)). worn_out (map f v) c.args.d) (sym c.deref.ensures.value) ∙ sym c.if-worn_out.ensures;
+      };
+    })
 
 pub returns : goal.returns
 returns g c =
@@ -44,7 +44,7 @@ returns g c =
     let after : flow_seen c.acknowledged.new.self ≡ acknowledged (flow_at R cl d) = c.acknowledged.ensures.after ∙ cond-true c.acknowledged.result (acknowledged old) old due ∙ ap acknowledged now-is in
     let enough : ltb old.unacknowledged step ≡ false = not-true _ (sym c.if-not-due.ensures) in
     let unspent : leb message_limit old.sent ≡ false = sym c.if-spent.ensures in
-    let fresh : worn_out cl.forward d ≡ false = ap (λ (v : List (End g.row.C.Denot g.row.D.Denot)). worn_out (map f v) d) (sym c.deref.ensures.value) ∙ sym c.if-worn-out.ensures in
+    let fresh : worn_out cl.forward d ≡ false = ap (λ (v : List (End g.row.C.Denot g.row.D.Denot)). worn_out (map f v) d) (sym c.deref.ensures.value) ∙ sym c.if-worn_out.ensures in
     let free : client_acknowledge_refusal R cl d ≡ None =
     acknowledge-due (flow_at R cl d) (worn_out cl.forward d) (ap (λ (v : Flow). ltb v.unacknowledged step) (sym now-is) ∙ enough) (ap (λ (v : Flow). leb message_limit v.sent) (sym now-is) ∙ unspent) fresh in
     record {

@@ -39,10 +39,10 @@ returns g c =
     let last = c.advance.new.ends in
     let long : length last ≡ was.backward.len = omega arith in
     let near : d < length cl.backward = simp length-map (omega (arith, was.backward.ok.0)) in
-    let value : map f c.deref-mut.result.now ≡ cl.backward = ap (map f) c.deref-mut.ensures.value in
+    let value : map f c.deref_mut.result.now ≡ cl.backward = ap (map f) c.deref_mut.ensures.value in
     let backward : map f (vec_items (with_items was.backward last)) ≡ advanced R cl.backward d (zeroed y) =
     ap (map f) (take_at last _ _ long) ∙ c.advance.ensures ∙ ap (λ v. cond (can_advance v d) (advanced_to v d s) v) value
-    ∙ cond-true (can_advance cl.backward d) (advanced_to cl.backward d s) cl.backward (can-advance cl.backward d near c.requires.2) ∙ c.requires.3 in
+    ∙ cond-true (can_advance cl.backward d) (advanced_to cl.backward d s) cl.backward (can-advance cl.backward d near c.requires.d_value) ∙ c.requires.taken_value in
     let next : flow_seen c.received.new.self ≡ received (command_of y) (flow_at R cl d) =
     c.received.ensures.after ∙ cond-true c.received.result (received n old) old (c.received.ensures.allowed ∙ ap not (sym c.if-overruns.ensures))
     ∙ ap (λ k. received k old) parts.command ∙ ap (received (command_of y)) c.flow-flow.ensures in
@@ -50,17 +50,17 @@ returns g c =
     let flows : map flow_seen (set items d c.received.new.self) ≡ set cl.flows d (received (command_of y) (flow_at R cl d)) =
     map-set flow_seen items d c.received.new.self ∙ ap (set cl.flows d) next in
     let k = d + 1 in
-    let streams : streams_seen c.client-received-mark.new.self ≡ or_unchanged cl.streams (client_receives k (command_of y) (stream_of y) cl.streams) =
-    c.client-received-mark.ensures.after ∙ ap (λ v. or_unchanged cl.streams (client_receives k v head.stream cl.streams)) parts.command
+    let streams : streams_seen c.client_received-mark.new.self ≡ or_unchanged cl.streams (client_receives k (command_of y) (stream_of y) cl.streams) =
+    c.client_received-mark.ensures.after ∙ ap (λ v. or_unchanged cl.streams (client_receives k v head.stream cl.streams)) parts.command
     ∙ ap (λ v. or_unchanged cl.streams (client_receives k (command_of y) v cl.streams)) parts.stream in
-    let mark : c.client-received-mark.result ≡ mark_of (client_receives k (command_of y) (stream_of y) cl.streams) =
-    c.client-received-mark.ensures.mark ∙ ap (λ v. mark_of (client_receives k v head.stream cl.streams)) parts.command
+    let mark : c.client_received-mark.result ≡ mark_of (client_receives k (command_of y) (stream_of y) cl.streams) =
+    c.client_received-mark.ensures.mark ∙ ap (λ v. mark_of (client_receives k v head.stream cl.streams)) parts.command
     ∙ ap (λ v. mark_of (client_receives k (command_of y) v cl.streams)) parts.stream in
     let byte : c.byte.result ≡ command_of y = c.byte.ensures.writes ∙ parts.command in
     record {
       answer = rw (byte, mark, parts.stream, parts.len) (ap (λ o. client_arrival (vec_len was.backward) o (Some d)) (sym fate));
-      state = same-client cl.forward cl.forward (map f (vec_items (with_items was.backward last))) (advanced R cl.backward d (zeroed y)) (map flow_seen (set items d c.received.new.self)) (set cl.flows d (received (command_of y) (flow_at R cl d))) (streams_seen c.client-received-mark.new.self) (or_unchanged cl.streams (client_receives k (command_of y) (stream_of y) cl.streams)) refl backward flows streams
+      state = same-client cl.forward cl.forward (map f (vec_items (with_items was.backward last))) (advanced R cl.backward d (zeroed y)) (map flow_seen (set items d c.received.new.self)) (set cl.flows d (received (command_of y) (flow_at R cl d))) (streams_seen c.client_received-mark.new.self) (or_unchanged cl.streams (client_receives k (command_of y) (stream_of y) cl.streams)) refl backward flows streams
           ∙ ap (client_taken R cl d y) (sym fate);
-      payload = c.copy-from-slice.ensures.after ∙ ap (leaves true c.args.payload.now y) (sym fate);
+      payload = c.copy_from_slice.ensures.after ∙ ap (leaves true c.args.payload.now y) (sym fate);
       hops = refl;
     }

@@ -18,16 +18,16 @@ post-requires g c =
     let R = rules g.C.Cipher g.D.Digest in
     let cl = client_seen {C = g.row.C.Denot} g.D.Digest c.args.self.now in
     let may = c.in-Ok.ensures.2 in
-    let key = c.in-Ok.ensures.1 in (
-      c.requires.0,
-      c.requires.1,
-      record {
+    let key = c.in-Ok.ensures.1 in (record {
+      d_in_bounds = c.requires.d_in_bounds;
+      payload_len = c.requires.payload_len;
+      may_send = record {
         fits = may.fits;
         window = ap (λ (v : Flow). ltb v.window (is_data (command_byte c.in-Ok.known))) c.flow-flow.ensures ∙ ap (λ n. ltb (flow_at R cl c.args.d).window (is_data n)) key ∙ may.window;
         unspent = ap (λ (v : Flow). leb message_limit v.sent) c.flow-flow.ensures ∙ may.unspent;
         fresh = may.fresh;
-      },
-    )
+      };
+    })
 
 pub returns-else-not-room : goal.returns-else-not-room
 returns-else-not-room g c =

@@ -25,17 +25,17 @@ returns g c =
     let last = c.advance.new.ends in
     let long : length last ≡ was.forward.len = omega arith in
     let near : d < length es = simp length-map (omega (arith, was.forward.ok.0)) in
-    let value : map f c.deref-mut.result.now ≡ es = ap (map f) c.deref-mut.ensures.value in
+    let value : map f c.deref_mut.result.now ≡ es = ap (map f) c.deref_mut.ensures.value in
     let forward : map f (vec_items (with_items was.forward last)) ≡ advanced_to es d s =
-    ap (map f) (take_at last _ _ long) ∙ c.advance.ensures ∙ ap (λ v. cond (can_advance v d) (advanced_to v d s) v) value ∙ cond-true (can_advance es d) (advanced_to es d s) es (can-advance es d near c.requires.3) in
+    ap (map f) (take_at last _ _ long) ∙ c.advance.ensures ∙ ap (λ v. cond (can_advance v d) (advanced_to v d s) v) value ∙ cond-true (can_advance es d) (advanced_to es d s) es (can-advance es d near c.requires.d_value) in
     let n = command_byte c.args.command in
     let old = flow_seen c.args.flow in
     let next : flow_seen c.posted.new.self ≡ posted n old =
-    c.posted.ensures.after ∙ cond-true c.posted.result (posted n old) old (c.posted.ensures.allowed ∙ and_from (not (ltb old.window (is_data n))) (not (leb message_limit old.sent)) (not_from_false _ c.requires.1) (not_from_false _ c.requires.2)) in
+    c.posted.ensures.after ∙ cond-true c.posted.result (posted n old) old (c.posted.ensures.allowed ∙ and_from (not (ltb old.window (is_data n))) (not (leb message_limit old.sent)) (not_from_false _ c.requires.command_value) (not_from_false _ c.requires.flow_value)) in
     let items = vec_items was.flows in
     let flows : map flow_seen (set items d c.posted.new.self) ≡ set (map flow_seen items) d (posted n old) = map-set flow_seen items d c.posted.new.self ∙ ap (set (map flow_seen items) d) next in
     let bs = map f (vec_items was.backward) in
     record {
-      state = same-client (map f (vec_items (with_items was.forward last))) (advanced_to es d s) bs bs (map flow_seen (set items d c.posted.new.self)) (set (map flow_seen items) d (posted n old)) (streams_seen c.client-sent.new.self) (or_unchanged (streams_seen was.streams) (client_sends (d + 1) n c.args.stream (streams_seen was.streams))) forward refl flows c.client-sent.ensures.after;
+      state = same-client (map f (vec_items (with_items was.forward last))) (advanced_to es d s) bs bs (map flow_seen (set items d c.posted.new.self)) (set (map flow_seen items) d (posted n old)) (streams_seen c.client_sent.new.self) (or_unchanged (streams_seen was.streams) (client_sends (d + 1) n c.args.stream (streams_seen was.streams))) forward refl flows c.client_sent.ensures.after;
       hops = refl;
     }

@@ -26,22 +26,22 @@ returns g c =
     let parts = c.in-Some.ensures.parts in
     let over : overruns (command_of y) rel.flow ≡ false = ap (λ n. overruns n rel.flow) (sym parts.command) ∙ sym c.if-overruns.ensures in
     let fate = delivery-met R rel k y (sym c.in-Some.ensures.test) over in
-    let forward : end_seen {C = g.row.C.Denot} g.D.Digest c.take-on.new.self ≡ took R rel.forward (zeroed y) =
-    c.take-on.ensures ∙ cond-false (leb layer_limit was.forward.layer) rel.forward (took_to rel.forward (g.D.Digest.state c.args.taken)) c.requires.2 ∙ ap (took_to rel.forward) c.requires.3 in
+    let forward : end_seen {C = g.row.C.Denot} g.D.Digest c.take_on.new.self ≡ took R rel.forward (zeroed y) =
+    c.take_on.ensures ∙ cond-false (leb layer_limit was.forward.layer) rel.forward (took_to rel.forward (g.D.Digest.state c.args.taken)) c.requires.layer_value ∙ ap (took_to rel.forward) c.requires.taken_value in
     let flow : flow_seen c.received.new.self ≡ received (command_of y) rel.flow =
     c.received.ensures.after ∙ cond-true c.received.result (received (command_byte head.command) rel.flow) rel.flow (c.received.ensures.allowed ∙ ap not (sym c.if-overruns.ensures))
     ∙ ap (λ n. received n rel.flow) parts.command in
-    let streams : streams_seen c.relay-received-mark.new.self ≡ or_unchanged rel.streams (relay_receives k (command_of y) (stream_of y) rel.streams) =
-    c.relay-received-mark.ensures.after ∙ ap (λ n. or_unchanged rel.streams (relay_receives k n head.stream rel.streams)) parts.command
+    let streams : streams_seen c.relay_received-mark.new.self ≡ or_unchanged rel.streams (relay_receives k (command_of y) (stream_of y) rel.streams) =
+    c.relay_received-mark.ensures.after ∙ ap (λ n. or_unchanged rel.streams (relay_receives k n head.stream rel.streams)) parts.command
     ∙ ap (λ n. or_unchanged rel.streams (relay_receives k (command_of y) n rel.streams)) parts.stream in
-    let mark : c.relay-received-mark.result ≡ mark_of (relay_receives k (command_of y) (stream_of y) rel.streams) =
-    c.relay-received-mark.ensures.mark ∙ ap (λ n. mark_of (relay_receives k n head.stream rel.streams)) parts.command
+    let mark : c.relay_received-mark.result ≡ mark_of (relay_receives k (command_of y) (stream_of y) rel.streams) =
+    c.relay_received-mark.ensures.mark ∙ ap (λ n. mark_of (relay_receives k n head.stream rel.streams)) parts.command
     ∙ ap (λ n. mark_of (relay_receives k (command_of y) n rel.streams)) parts.stream in
     let byte : c.byte.result ≡ command_of y = c.byte.ensures.writes ∙ parts.command in
     record {
       answer = rw (byte, mark, parts.stream, parts.len) (ap (arrival true k) (sym fate));
-      state = same-relay (end_seen g.D.Digest c.take-on.new.self) (took R rel.forward (zeroed y)) rel.backward (flow_seen c.received.new.self) (received (command_of y) rel.flow) (streams_seen c.relay-received-mark.new.self) (or_unchanged rel.streams (relay_receives k (command_of y) (stream_of y) rel.streams)) forward flow streams
+      state = same-relay (end_seen g.D.Digest c.take_on.new.self) (took R rel.forward (zeroed y)) rel.backward (flow_seen c.received.new.self) (received (command_of y) rel.flow) (streams_seen c.relay_received-mark.new.self) (or_unchanged rel.streams (relay_receives k (command_of y) (stream_of y) rel.streams)) forward flow streams
           ∙ ap (relay_after R rel k true y) (sym fate);
-      payload = c.copy-from-slice.ensures.after ∙ ap (leaves true c.args.payload.now y) (sym fate);
+      payload = c.copy_from_slice.ensures.after ∙ ap (leaves true c.args.payload.now y) (sym fate);
       place = (refl, refl);
     }
