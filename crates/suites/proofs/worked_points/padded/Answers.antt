@@ -3,6 +3,6 @@ use Rattle.suites.proofs.worked_points.padded.Goals as goal
 
 pub returns : goal.returns
 returns c =
-    let one : c.padded-blocks.result ≡ 1 = omega (arith, c.padded-blocks.ensures.count (replicate 55 0) refl) in
-    let two : c.padded-blocks-2.result ≡ 2 = omega (arith, c.padded-blocks-2.ensures.count (replicate 56 0) refl) in
-    record { boundary = c.padded-blocks.ensures.laws.boundary; counts = cc }
+    let one : c.padded_blocks.result ≡ 1 = omega (arith, c.padded_blocks.ensures.count (replicate 55 0) refl) in
+    let two : c.padded_blocks-2.result ≡ 2 = omega (arith, c.padded_blocks-2.ensures.count (replicate 56 0) refl) in
+    record { boundary = c.padded_blocks.ensures.laws.boundary; counts = cc }

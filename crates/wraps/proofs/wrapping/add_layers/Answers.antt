@@ -23,7 +23,7 @@ loop-i-preserved g c =
     let es = map f xs in
     let d = c.args.d in
     let x = c.args.payload.now in
-    let q = c.add-and-ask.new.payload in
+    let q = c.add_and_ask.new.payload in
     let i = c.loop-i.i in
     let j = i - 1 in
     let s : j + 1 ≡ i = omega arith in
@@ -33,21 +33,21 @@ loop-i-preserved g c =
     let far : drop i es ≡ f e ∷ drop (i + 1) es = subst (λ k. drop k es ≡ f e ∷ drop (k + 1) es) s (drop-read f xs (j + 1) e (omega arith) c.index-ends-i-in-loop-i.is) in
     let near = drop-read f xs j n (omega arith) c.index-ends-i.is in
     let on : q ≡ layered R (drop (j + 1) es) (d - j) x =
-    c.add-and-ask.ensures.layer ∙ ap (R.added e.cipher e.layer) c.loop-i.invariant.1 ∙ sym (layer-step R es i j d (f e) (f n) x s l far near) in
+    c.add_and_ask.ensures.layer ∙ ap (R.added e.cipher e.layer) c.loop-i.invariant.1 ∙ sym (layer-step R es i j d (f e) (f n) x s l far near) in
     let long : length q ≡ 509 = omega arith in
     let test : recognises R.tags (f n).digest (layered R (drop (j + 1) es) (d - j) x) ≡ false =
-    ap (recognises R.tags (f n).digest) (sym on) ∙ sym (at_length q (recognises R.tags (f n).digest q) long) ∙ sym c.add-and-ask.ensures.taken ∙ c.if-add-and-ask.false in
+    ap (recognises R.tags (f n).digest) (sym on) ∙ sym (at_length q (recognises R.tags (f n).digest q) long) ∙ sym c.add_and_ask.ensures.taken ∙ c.if-add_and_ask.false in
     (omega arith, on, taken_step R es i j d (f e) (f n) x s l far near false c.loop-i.invariant.2 test)
 
-pub returns-then-add-and-ask : goal.returns-then-add-and-ask
-returns-then-add-and-ask g c =
+pub returns-then-add_and_ask : goal.returns-then-add_and_ask
+returns-then-add_and_ask g c =
     let R = rules g.C.Cipher g.D.Digest in
     let f = end_seen {C = g.row.C.Denot} g.D.Digest in
     let xs = c.args.ends.now in
     let es = map f xs in
     let d = c.args.d in
     let x = c.args.payload.now in
-    let q = c.add-and-ask.new.payload in
+    let q = c.add_and_ask.new.payload in
     let i = c.loop-i.i in
     let j = i - 1 in
     let s : j + 1 ≡ i = omega arith in
@@ -57,10 +57,10 @@ returns-then-add-and-ask g c =
     let far : drop i es ≡ f e ∷ drop (i + 1) es = subst (λ k. drop k es ≡ f e ∷ drop (k + 1) es) s (drop-read f xs (j + 1) e (omega arith) c.index-ends-i-in-loop-i.is) in
     let near = drop-read f xs j n (omega arith) c.index-ends-i.is in
     let on : q ≡ layered R (drop (j + 1) es) (d - j) x =
-    c.add-and-ask.ensures.layer ∙ ap (R.added e.cipher e.layer) c.loop-i.invariant.1 ∙ sym (layer-step R es i j d (f e) (f n) x s l far near) in
+    c.add_and_ask.ensures.layer ∙ ap (R.added e.cipher e.layer) c.loop-i.invariant.1 ∙ sym (layer-step R es i j d (f e) (f n) x s l far near) in
     let long : length q ≡ 509 = omega arith in
     let test : recognises R.tags (f n).digest (layered R (drop (j + 1) es) (d - j) x) ≡ true =
-    ap (recognises R.tags (f n).digest) (sym on) ∙ sym (at_length q (recognises R.tags (f n).digest q) long) ∙ sym c.add-and-ask.ensures.taken ∙ c.if-add-and-ask.true in
+    ap (recognises R.tags (f n).digest) (sym on) ∙ sym (at_length q (recognises R.tags (f n).digest q) long) ∙ sym c.add_and_ask.ensures.taken ∙ c.if-add_and_ask.true in
     let z : j + (d - j) ≡ d = omega arith in
     let m : d - j ≡ d + 1 - (j + 1) = omega arith in
     let lt : j < length es = simp length-map (omega arith) in
@@ -86,7 +86,7 @@ returns g c =
     record {
       place = sym (ap (λ k. taken_at R es k x) m ∙ none);
       layers =
-          c.add-layer.ensures ∙ ap (R.added e.cipher e.layer) (c.loop-i.invariant.1 ∙ ap (λ k. layered R (drop (k + 1) es) (d - k) x) z)
+          c.add_layer.ensures ∙ ap (R.added e.cipher e.layer) (c.loop-i.invariant.1 ∙ ap (λ k. layered R (drop (k + 1) es) (d - k) x) z)
           ∙ sym (layer-last R es d (f e) x (drop-read f xs 0 e (omega arith) c.index-ends-0.is));
       before = tt;
     }
