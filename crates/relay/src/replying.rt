@@ -153,6 +153,7 @@ impl<C: Cipher, D: Digest + Drop> Relay<C, D> {
     }
 
     // The change once nothing forbids it.
+    #[tactic(auto, unfolding(cell::specs::Payload::blank))]
     fn post(&mut self, cleared: Cleared, stream: u16, content: &[u8], payload: &mut [u8])
         requires payload_len { length payload.old ≡ 509 }
         requires content_len_bound { length content.now ≤ 498 }
