@@ -4,8 +4,8 @@ use Rattle.points.proofs.worked_points.Goals as goal
 pub returns : goal.returns
 returns c =
     record {
-      points = record { suites = c.worked-points.ensures.points; ends = c.first-window.ensures.worked };
-      substituted = c.worked-points.ensures.substituted;
-      padded = c.worked-points.ensures.padded;
-      window = c.first-window.ensures.window;
+      points = record { suites = c.worked_points.ensures.points; ends = c.first_window.ensures.worked };
+      substituted = c.worked_points.ensures.substituted;
+      padded = c.worked_points.ensures.padded;
+      window = c.first_window.ensures.window;
     }

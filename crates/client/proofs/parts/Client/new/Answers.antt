@@ -7,14 +7,14 @@ use Rattle.hops.specs.Views.{end_seen}
 use Rattle.client.proofs.Sends.{hops-met, map-replicate, same-client}
 use Rattle.client.proofs.parts.Client.new.Goals as goal
 
-pub invariant-of-result : goal.invariant-of-result
-invariant-of-result g c =
-    let met = hops-met c.len-n.result (vec_len c.args.forward) (vec_len c.args.backward) c.len.result c.len-n.ensures c.len.ensures (sym c.if-not-is-circuit.ensures) in
+pub invariant_of-result : goal.invariant_of-result
+invariant_of-result g c =
+    let met = hops-met c.len-n.result (vec_len c.args.forward) (vec_len c.args.backward) c.len.result c.len-n.ensures c.len.ensures (sym c.if-not-is_circuit.ensures) in
     ((met.2, c.in-Ok.ensures.made.1 ∙ c.len-n.ensures, met.0, met.1), tt)
 
 pub returns-in-Err : goal.returns-in-Err
 returns-in-Err g c =
-    hops-met c.len-n.result (vec_len c.args.forward) (vec_len c.args.backward) c.len.result c.len-n.ensures c.len.ensures (sym c.if-not-is-circuit.ensures)
+    hops-met c.len-n.result (vec_len c.args.forward) (vec_len c.args.backward) c.len.result c.len-n.ensures c.len.ensures (sym c.if-not-is_circuit.ensures)
 
 pub returns-in-Ok : goal.returns-in-Ok
 returns-in-Ok g c =
@@ -23,5 +23,5 @@ returns-in-Ok g c =
     let bs = map f (vec_items c.args.backward) in
     let n = c.len-n.result in
     let flows : map flow_seen (vec_items c.in-Ok.flows) ≡ replicate (vec_len c.args.forward) fresh_flow =
-    ap (map flow_seen) (c.in-Ok.ensures.exact (λ y e. e)) ∙ map-replicate flow_seen n c.fresh.result ∙ ap (replicate n) c.fresh.ensures.fresh ∙ ap (λ k. replicate k fresh_flow) c.len-n.ensures in
+    ap (map flow_seen) (c.in-Ok.ensures.items_if_clones_equal (λ y e. e)) ∙ map-replicate flow_seen n c.fresh.result ∙ ap (replicate n) c.fresh.ensures.fresh ∙ ap (λ k. replicate k fresh_flow) c.len-n.ensures in
     same-client fs fs bs bs (map flow_seen (vec_items c.in-Ok.flows)) (replicate (vec_len c.args.forward) fresh_flow) (streams_seen c.new.result) no_streams refl refl flows c.new.ensures.none

@@ -7,5 +7,5 @@ use Rattle.client.proofs.parts.Client.prepare.Goals as goal
 
 pub unreachable-requires-in-NoSuchHop : goal.unreachable-requires-in-NoSuchHop
 unreachable-requires-in-NoSuchHop g c =
-    not-past (rules g.C.Cipher g.D.Digest) (map (end_seen {C = g.row.C.Denot} g.D.Digest) c.deref.result.now) c.args.d c.write-payload.new.payload
+    not-past (rules g.C.Cipher g.D.Digest) (map (end_seen {C = g.row.C.Denot} g.D.Digest) c.deref.result.now) c.args.d c.write_payload.new.payload
     (simp length-map (omega arith)) (c.in-Err-wrap.ensures.answer ∙ ap Some c.in-NoSuchHop.is)

@@ -24,7 +24,7 @@ post-requires g c =
     let m = message c.args.command c.args.stream c.args.content.now in
     let may = c.in-Ok.ensures in
     let clear = message-cleared c.sender.result Forward (d + 1) (flow_at R cl d) (worn_out cl.forward d) cl.streams c.sender.ensures m c.in-Ok.cleared may in
-    (c.requires.0, (c.requires.1, may.fits), clear.2)
+    (record { d_in_bounds = c.requires.d_in_bounds; payload_len = (c.requires.payload_len, may.fits); d_value = clear.2 })
 
 pub returns-in-Err : goal.returns-in-Err
 returns-in-Err g c =

@@ -22,9 +22,9 @@ returns g c =
     let last = c.advance.new.ends in
     let long : length last ≡ was.forward.len = omega arith in
     let near : d < length es = simp length-map (omega (arith, was.forward.ok.0)) in
-    let value : map f c.deref-mut.result.now ≡ es = ap (map f) c.deref-mut.ensures.value in
+    let value : map f c.deref_mut.result.now ≡ es = ap (map f) c.deref_mut.ensures.value in
     let forward : map f (vec_items (with_items was.forward last)) ≡ advanced_to es d s =
-    ap (map f) (take_at last _ _ long) ∙ c.advance.ensures ∙ ap (λ v. cond (can_advance v d) (advanced_to v d s) v) value ∙ cond-true (can_advance es d) (advanced_to es d s) es (can-advance es d near c.requires.1) in
+    ap (map f) (take_at last _ _ long) ∙ c.advance.ensures ∙ ap (λ v. cond (can_advance v d) (advanced_to v d s) v) value ∙ cond-true (can_advance es d) (advanced_to es d s) es (can-advance es d near c.requires.d_value) in
     let n = command_byte c.args.cleared.command in
     let new = c.args.cleared.flow in
     let items = vec_items was.flows in

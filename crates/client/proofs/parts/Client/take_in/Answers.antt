@@ -27,16 +27,16 @@ returns-in-Ok g c =
     let d = c.args.d in
     let y = c.args.bare.now in
     let old = c.flow-flow.ensures in
-    let answer = c.in-Ok.ensures.answer ∙ ap (handed (d + 1)) (arrives-here R cl d (flow_seen c.flow-flow.result) y c.requires.1.0 old) in
+    let answer = c.in-Ok.ensures.answer ∙ ap (handed (d + 1)) (arrives-here R cl d (flow_seen c.flow-flow.result) y c.requires.bare_len.0 old) in
     let here = took-here R cl d y c.args.payload.now c.in-Ok.handed answer in
     let s = g.D.Digest.state c.args.taken in
     let last = c.advance.new.ends in
     let long : length last ≡ was.backward.len = omega arith in
     let near : d < length cl.backward = simp length-map (omega (arith, was.backward.ok.0)) in
-    let value : map f c.deref-mut.result.now ≡ cl.backward = ap (map f) c.deref-mut.ensures.value in
+    let value : map f c.deref_mut.result.now ≡ cl.backward = ap (map f) c.deref_mut.ensures.value in
     let backward : map f (vec_items (with_items was.backward last)) ≡ advanced R cl.backward d (zeroed y) =
     ap (map f) (take_at last _ _ long) ∙ c.advance.ensures ∙ ap (λ v. cond (can_advance v d) (advanced_to v d s) v) value
-    ∙ cond-true (can_advance cl.backward d) (advanced_to cl.backward d s) cl.backward (can-advance cl.backward d near c.requires.2) ∙ c.requires.3 in
+    ∙ cond-true (can_advance cl.backward d) (advanced_to cl.backward d s) cl.backward (can-advance cl.backward d near c.requires.d_value) ∙ c.requires.taken_value in
     let items = vec_items was.flows in
     let new = c.deliver.new.flow in
     let flows : map flow_seen (set items d new) ≡ set cl.flows d (received (command_of y) (flow_at R cl d)) =
@@ -45,6 +45,6 @@ returns-in-Ok g c =
       answer = answer;
       state = same-client cl.forward cl.forward (map f (vec_items (with_items was.backward last))) (advanced R cl.backward d (zeroed y)) (map flow_seen (set items d new)) (set cl.flows d (received (command_of y) (flow_at R cl d))) (streams_seen c.deliver.new.streams) (or_unchanged cl.streams (client_receives (d + 1) (command_of y) (stream_of y) cl.streams)) refl backward flows c.in-Ok.ensures.streams
           ∙ here.0;
-      payload = c.copy-from-slice.ensures.after ∙ here.1;
+      payload = c.copy_from_slice.ensures.after ∙ here.1;
       hops = refl;
     }
