@@ -25,6 +25,14 @@ CHOSEN = {
     "nth-getD": "nth-get_or",
 }
 CRATES = {"sha1": "sha_1"}
+# names that a `use` line gives
+ALIASES = {
+    "afterAcknowledged": "after_acknowledged",
+    "afterPosted": "after_posted",
+    "afterReceived": "after_received",
+    "relaySentTo": "relay_sent_to",
+    "tooMany": "too_many",
+}
 # lemmas that would then have the name of the definition that they are about
 LEMMAS = {"passes_on": "passes_on_lem", "wrap_left": "wrap_left_lem", "handed_out": "handed_out_lem"}
 
@@ -93,6 +101,7 @@ def main():
             new = CHOSEN.get(name, snake(name))
             if new != name:
                 turned[name] = new
+    turned.update(ALIASES)
     bad = 0
     news = collections.Counter(turned.values())
     for name, new in turned.items():

@@ -4,7 +4,7 @@ ghost use Rattle.cell.specs.declared.command.Way.TheVariants.{Forward};
 ghost use Rattle.cell.specs.Commands.{command_byte};
 ghost use Rattle.cell.specs.Payload.{blank};
 ghost use Rattle.model.specs.Messages.{message, sendme};
-ghost use Rattle.model.specs.Flows.{acknowledged as afterAcknowledged};
+ghost use Rattle.model.specs.Flows.{acknowledged as after_acknowledged};
 ghost use Rattle.model.specs.Streams.{or_unchanged, client_sends};
 ghost use Rattle.model.specs.Ends.{worn_out, wrapped, advanced, coincidence};
 ghost use Rattle.model.specs.Calls.{flow_at, client_send_refusal, client_acknowledge_refusal, client_sent};
@@ -138,7 +138,7 @@ impl<C: Cipher, D: Digest + Drop> Client<C, D> {
         requires d_in_bounds { d < vec_len self.old.forward }
         requires payload_len { length payload.old ≡ 509 }
         ensures answer { result ≡ send_answer (placed (d + 1) (client_acknowledge_refusal (rules C.Cipher D.Digest) (client_seen D.Digest self.old) d)) room (coincidence (rules C.Cipher D.Digest) (client_seen D.Digest self.old).forward d (blank sendme)) }
-        ensures state { client_seen D.Digest self.new ≡ if_sent result (client_sent (rules C.Cipher D.Digest) (client_seen D.Digest self.old) d (afterAcknowledged (flow_at (rules C.Cipher D.Digest) (client_seen D.Digest self.old) d)) sendme) (client_seen D.Digest self.old) }
+        ensures state { client_seen D.Digest self.new ≡ if_sent result (client_sent (rules C.Cipher D.Digest) (client_seen D.Digest self.old) d (after_acknowledged (flow_at (rules C.Cipher D.Digest) (client_seen D.Digest self.old) d)) sendme) (client_seen D.Digest self.old) }
         ensures payload { payload.new ≡ if_sent result (wrapped (rules C.Cipher D.Digest) (client_seen D.Digest self.old).forward d (blank sendme)) payload.old }
         ensures hops { vec_len self.new.forward ≡ vec_len self.old.forward }
     {
@@ -201,6 +201,7 @@ impl<C: Cipher, D: Digest + Drop> Client<C, D> {
     }
 
     // Replaces the payload by the wrapped message, unless it coincides. The work is done on a copy.
+    #[tactic(auto, unfolding(cell::specs::Payload::blank))]
     fn prepare(
         &self,
         d: usize,

@@ -3,7 +3,7 @@ ghost use Rattle.std.specs.Prelude.{◌≡◌, ℕ, ◌+◌, ◌<◌, ◌≤◌,
 ghost use Rattle.cell.specs.Commands.{command_byte};
 ghost use Rattle.cell.specs.Payload.{blank, zeroed};
 ghost use Rattle.model.specs.Messages.{message, sendme, is_data};
-ghost use Rattle.model.specs.Flows.{message_limit, fresh_flow, posted as afterPosted, acknowledged as afterAcknowledged};
+ghost use Rattle.model.specs.Flows.{message_limit, fresh_flow, posted as after_posted, acknowledged as after_acknowledged};
 ghost use Rattle.model.specs.Streams.{no_streams, or_unchanged, client_sends};
 ghost use Rattle.model.specs.Ends.{worn_out, wrapped, advanced, coincidence};
 ghost use Rattle.model.specs.Calls.{flow_at, client_send_refusal, client_acknowledge_refusal, client_sent, client_delivery};
@@ -270,7 +270,7 @@ impl<C: Cipher, D: Digest + Drop> Client<C, D> {
         ensures state { client_seen D.Digest self.new ≡ record {
           forward = advanced_to (client_seen D.Digest self.old).forward d (D.Digest.state taken);
           backward = (client_seen D.Digest self.old).backward;
-          flows = slice_set (client_seen D.Digest self.old).flows d (afterPosted (command_byte command) (flow_seen flow));
+          flows = slice_set (client_seen D.Digest self.old).flows d (after_posted (command_byte command) (flow_seen flow));
           streams = or_unchanged (client_seen D.Digest self.old).streams (client_sends (d + 1) (command_byte command) stream (client_seen D.Digest self.old).streams);
         } }
         ensures hops { vec_len self.new.forward ≡ vec_len self.old.forward }
@@ -324,7 +324,7 @@ impl<C: Cipher, D: Digest + Drop> Client<C, D> {
         requires d_in_bounds { d < vec_len self.old.forward }
         requires payload_len { length payload.old ≡ 509 }
         ensures answer { result ≡ send_answer (placed (d + 1) (client_acknowledge_refusal (rules C.Cipher D.Digest) (client_seen D.Digest self.old) d)) room (coincidence (rules C.Cipher D.Digest) (client_seen D.Digest self.old).forward d (blank sendme)) }
-        ensures state { client_seen D.Digest self.new ≡ if_sent result (client_sent (rules C.Cipher D.Digest) (client_seen D.Digest self.old) d (afterAcknowledged (flow_at (rules C.Cipher D.Digest) (client_seen D.Digest self.old) d)) sendme) (client_seen D.Digest self.old) }
+        ensures state { client_seen D.Digest self.new ≡ if_sent result (client_sent (rules C.Cipher D.Digest) (client_seen D.Digest self.old) d (after_acknowledged (flow_at (rules C.Cipher D.Digest) (client_seen D.Digest self.old) d)) sendme) (client_seen D.Digest self.old) }
         ensures payload { payload.new ≡ if_sent result (wrapped (rules C.Cipher D.Digest) (client_seen D.Digest self.old).forward d (blank sendme)) payload.old }
         ensures hops { vec_len self.new.forward ≡ vec_len self.old.forward }
     {

@@ -11,7 +11,7 @@ use Rattle.model.specs.Ends.{Rules, End, layer_limit, sealed, wrapped, advanced,
 use Rattle.model.specs.Streams.{Streams, is_broken}
 use Rattle.model.specs.Flows.{Flow, step, message_limit, no_flow, posted, received, acknowledged}
 use Rattle.model.specs.Circuit.{Line, is_full, holding, Relay, Circuit, Call, send, carry, reply, bring, acknowledge, destroy, Request, Refusal, Answer}
-use Rattle.model.specs.Calls.{refusal, headed, sending_refusal, acknowledge_refusal, Outcome, stops, passes_on, delivers, flow_at, client_send_refusal, client_acknowledge_refusal, client_outcome, relay_send_refusal, relay_acknowledge_refusal, relay_adds, relay_passed, relay_took, relay_added, relay_sent as relaySentTo, send_unless, send_on, send_by, reply_on, reply_by, reply_at, reply_sendme, carry_on, carry_to, carry_cell, carry_at, arrived_at, arrive_cell, arrive, bring_cell, bring_at, act, lacks_room, asks_for, gate, gated, called}
+use Rattle.model.specs.Calls.{refusal, headed, sending_refusal, acknowledge_refusal, Outcome, stops, passes_on, delivers, flow_at, client_send_refusal, client_acknowledge_refusal, client_outcome, relay_send_refusal, relay_acknowledge_refusal, relay_adds, relay_passed, relay_took, relay_added, relay_sent as relay_sent_to, send_unless, send_on, send_by, reply_on, reply_by, reply_at, reply_sendme, carry_on, carry_to, carry_cell, carry_at, arrived_at, arrive_cell, arrive, bring_cell, bring_at, act, lacks_room, asks_for, gate, gated, called}
 use Rattle.model.specs.Runs.{World, after, next, start}
 use Rattle.model.specs.Law.{All, EmptyLine, FreshRelay, Fresh}
 use Rattle.model.proofs.Places.{nth-get_or, nth-set-other}
@@ -161,7 +161,7 @@ module _ {K S : Type 0} (R : Rules K S) where
   small-reply_on c i r f m None s er ef lt el = s
   small-reply_on c i r f m (Some l) s er ef lt el =
       let y : List ℕ = framed (cell_number (i + 1)) (relay_adds R r (sealed R r.backward.digest (blank m))) in
-      let t : Relay K S = relaySentTo R r (i + 1) f m in
+      let t : Relay K S = relay_sent_to R r (i + 1) f m in
       let push : length (l.cells ++ y ∷ []) + 0 ≡ length l.cells + 1 = omega (arith, length_push l.cells y) in
       let line : (j : ℕ) → at waiting_on (set c.backward i (holding l (l.cells ++ y ∷ []))) j + 0 * one i j ≡ at waiting_on c.backward j + 1 * one i j = at_set waiting_on c.backward i l _ 0 1 el push in
       let layer : (j : ℕ) → at backward_layer (set c.relays i t) j + 0 * one i j ≡ at backward_layer c.relays j + 1 * one i j = at_set backward_layer c.relays i r t 0 1 er (omega arith) in

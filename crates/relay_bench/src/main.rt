@@ -24,9 +24,9 @@ fn count(rt: &HostRuntime) -> anyhow::Result<u32> {
     match env::args(rt)?.nth(1) {
         Some(word) => match decimal(word.as_bytes(), 100_000_000) {
             Some(n) => Ok(n),
-            None => Err(USAGE.into()),
+            None => Err(anyhow!(USAGE)),
         },
-        None => Err(USAGE.into()),
+        None => Err(anyhow!(USAGE)),
     }
 }
 

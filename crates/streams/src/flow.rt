@@ -2,7 +2,7 @@
 ghost use Rattle.std.specs.Prelude.{◌≡◌, ◌-◌, ◌*◌, ◌≤◌, not, ◌&&◌, if◌then◌else◌, nat_le, nat_lt};
 ghost use Rattle.cell.specs.Commands.{command_byte};
 ghost use Rattle.model.specs.Messages.{is_data, is_sendme};
-ghost use Rattle.model.specs.Flows.{step, window_start, message_limit, posted as afterPosted, received as afterReceived, acknowledged as afterAcknowledged, overruns as tooMany};
+ghost use Rattle.model.specs.Flows.{step, window_start, message_limit, posted as after_posted, received as after_received, acknowledged as after_acknowledged, overruns as too_many};
 ghost use Rattle.streams.specs.Views.{flow_seen};
 
 use crate::types::Flow;
@@ -32,7 +32,7 @@ impl Flow {
 
     /// Whether the other end sent more than its window, or acknowledged more than it received.
     pub fn overruns(&self, command: Command) -> bool
-        ensures { result ≡ tooMany (command_byte command) (flow_seen self.now) }
+        ensures { result ≡ too_many (command_byte command) (flow_seen self.now) }
     {
         match command {
             Command::Data => self.is_unanswered(),
@@ -58,7 +58,7 @@ impl Flow {
     /// A command was sent. Where the window or the number of messages does not allow it, nothing changes.
     pub fn posted(&mut self, command: Command) -> bool
         ensures allowed { result ≡ (not (nat_lt (flow_seen self.old).window (is_data (command_byte command))) && not (nat_le message_limit (flow_seen self.old).sent)) }
-        ensures after { flow_seen self.new ≡ (if result then afterPosted (command_byte command) (flow_seen self.old) else flow_seen self.old) }
+        ensures after { flow_seen self.new ≡ (if result then after_posted (command_byte command) (flow_seen self.old) else flow_seen self.old) }
     {
         if !self.window_allows(command) || self.spent() {
             return false;
@@ -70,8 +70,8 @@ impl Flow {
 
     /// A command was delivered, late or not. One that overruns changes nothing.
     pub fn received(&mut self, command: Command) -> bool
-        ensures allowed { result ≡ not (tooMany (command_byte command) (flow_seen self.old)) }
-        ensures after { flow_seen self.new ≡ (if result then afterReceived (command_byte command) (flow_seen self.old) else flow_seen self.old) }
+        ensures allowed { result ≡ not (too_many (command_byte command) (flow_seen self.old)) }
+        ensures after { flow_seen self.new ≡ (if result then after_received (command_byte command) (flow_seen self.old) else flow_seen self.old) }
     {
         if self.overruns(command) {
             return false;
@@ -84,7 +84,7 @@ impl Flow {
     /// 100 DATA were acknowledged. Where fewer wait, nothing changes.
     pub fn acknowledged(&mut self) -> bool
         ensures allowed { result ≡ not (nat_lt (flow_seen self.old).unacknowledged step) }
-        ensures after { flow_seen self.new ≡ (if result then afterAcknowledged (flow_seen self.old) else flow_seen self.old) }
+        ensures after { flow_seen self.new ≡ (if result then after_acknowledged (flow_seen self.old) else flow_seen self.old) }
     {
         if !self.due() {
             return false;

@@ -10,7 +10,7 @@ use Rattle.client.proofs.parts.Client.new.Goals as goal
 pub invariant_of-result : goal.invariant_of-result
 invariant_of-result g c =
     let met = hops-met c.len-n.result (vec_len c.args.forward) (vec_len c.args.backward) c.len.result c.len-n.ensures c.len.ensures (sym c.if-not-is_circuit.ensures) in
-    ((met.2, c.in-Ok.ensures.made.1 ∙ c.len-n.ensures, met.0, met.1), tt)
+    record { even = (met.2, c.in-Ok.ensures.len ∙ c.len-n.ensures, met.0, met.1) }
 
 pub returns-in-Err : goal.returns-in-Err
 returns-in-Err g c =

@@ -20,12 +20,13 @@ take_in-requires g c =
     let f = end_seen {C = g.row.C.Denot} g.D.Digest in
     let found = c.in-Some-seek.found in
     let bs = map f (vec_items c.args.self.now.backward) in
-    let none : worn_at bs ≡ None = ap (λ (v : List (End g.row.C.Denot g.row.D.Denot)). worn_at (map f v)) (sym c.deref.ensures.value) ∙ sym c.in_default.ensures.first in (
-      omega (arith, c.in-Some-seek.ensures.within),
-      (omega arith, c.if-payload-ne509.false),
-      none-worn bs found.0 none,
-      subst (λ (v : List (End g.row.C.Denot g.row.D.Denot)). advanced_to (map f v) found.0 (g.D.Digest.state found.1) ≡ advanced R (map f v) found.0 (zeroed c.seek.new.payload)) c.deref-2.ensures.value c.in-Some-seek.ensures.taken,
-    )
+    let none : worn_at bs ≡ None = ap (λ (v : List (End g.row.C.Denot g.row.D.Denot)). worn_at (map f v)) (sym c.deref.ensures.value) ∙ sym c.in_default.ensures.first in
+    record {
+      d_in_bounds = omega (arith, c.in-Some-seek.ensures.within);
+      bare_len = (omega arith, c.if-payload-ne509.false);
+      d_value = none-worn bs found.0 none;
+      taken_value = subst (λ (v : List (End g.row.C.Denot g.row.D.Denot)). advanced_to (map f v) found.0 (g.D.Digest.state found.1) ≡ advanced R (map f v) found.0 (zeroed c.seek.new.payload)) c.deref-2.ensures.value c.in-Some-seek.ensures.taken;
+    }
 
 pub returns-in-None : goal.returns-in-None
 returns-in-None g c =
