@@ -1,6 +1,6 @@
 -- The laws of a cell's frame.
 use Rattle.std.proofs.Common.{◌≡◌, ℕ, ◌+◌, ◌/◌, ◌%◌, ◌<◌, ◌≤◌, List, [], ◌∷◌, length, get_or, refl, arith}
-use Rattle.cell.specs.Frame.{cell_number, relay_cell, framed, number_of, cell_command_of, payload_of}
+use Rattle.cell.specs.Frame.{relay_cell, framed, number_of, cell_command_of, payload_of}
 
 pub length-framed : (number : ℕ) (p : List ℕ) → length (framed number p) ≡ length p + 5
 unfolding framed

@@ -1,9 +1,9 @@
 -- The laws of a payload: reading undoes writing, writing undoes reading, and a tag changes no other field.
-use Rattle.std.proofs.Common.{◌≡◌, ℕ, suc, ◌+◌, ◌-◌, ◌*◌, ◌/◌, ◌%◌, ◌<◌, ◌≤◌, List, [], ◌∷◌, ◌++◌, length, get_or, take, drop, replicate, sym, refl, ap, ◌∙◌, arith, length-append}
+use Rattle.std.proofs.Common.{◌≡◌, ℕ, suc, ◌+◌, ◌-◌, ◌*◌, ◌/◌, ◌%◌, ◌<◌, ◌≤◌, List, [], ◌∷◌, ◌++◌, length, get_or, take, drop, replicate, sym, refl, ◌∙◌, arith, length-append}
 use native.Mathlib.Nat.{div-add-mod}
 use lib.ListN.{length-replicate}
 use Rattle.std.proofs.lemmas.List.{take_at, drop_at, take-append-drop, drop-drop, length-take-le}
-use Rattle.cell.specs.Payload.{Message, number_at, two_bytes, no_tag, written, blank, tagged, zeroed, command_of, recognised_of, stream_of, tag_of, length_of, data_of, message_of, rewritten, WrittenPayload}
+use Rattle.cell.specs.Payload.{Message, no_tag, written, blank, tagged, zeroed, command_of, recognised_of, stream_of, tag_of, length_of, data_of, message_of, rewritten, WrittenPayload}
 
 ---- a long list is its first elements and a rest
 first : (P : List ℕ → Type 0) (n : ℕ) → ((a : ℕ) (q : List ℕ) → n ≤ length q → P (a ∷ q)) → (p : List ℕ) → suc n ≤ length p → P p

@@ -1,6 +1,6 @@
 -- A relay payload: 509 bytes, a header of eleven and then the data, with zeros after the data.
 -- Byte 0 is the command, 1-2 the recognised field, 3-4 the stream, 5-8 the tag, 9-10 the data's length. Numbers are big-endian.
-use Rattle.std.specs.Prelude.{◌≡◌, ℕ, ◌+◌, ◌-◌, ◌*◌, ◌/◌, ◌%◌, ◌<◌, ◌≤◌, List, [], ◌∷◌, ◌++◌, length, take, drop, replicate, slice_index}
+use Rattle.std.specs.Prelude.{◌≡◌, ℕ, ◌+◌, ◌-◌, ◌*◌, ◌/◌, ◌%◌, ◌≤◌, List, [], ◌∷◌, ◌++◌, length, take, drop, replicate, slice_index}
 
 pub record Message : Type 0 where
   pub command : ℕ

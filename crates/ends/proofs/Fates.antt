@@ -1,5 +1,5 @@
 -- What becomes of a payload at a relay, by the tests that the code makes.
-use Rattle.std.proofs.Common.{◌≡◌, ℕ, Bool, true, false, cond, not, eqb, leb, List, length, Result, sym, refl, ap, ◌∙◌}
+use Rattle.std.proofs.Common.{◌≡◌, ℕ, Bool, true, false, cond, not, eqb, leb, List, length, refl}
 use Rattle.std.proofs.lemmas.Bool.{eq-eqb}
 use Rattle.cell.specs.declared.command.Way.TheVariants.{Forward}
 use Rattle.cell.specs.Payload.{Message, command_of, stream_of, message_of}

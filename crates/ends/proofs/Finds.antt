@@ -1,5 +1,5 @@
 -- What becomes of a payload at the client, by the tests that the code makes.
-use Rattle.std.proofs.Common.{◌≡◌, ℕ, zero, suc, ◌+◌, ◌-◌, Bool, true, false, cond, ◌||◌, eqb, leb, List, [], ◌∷◌, length, Some, None, Option, sym, refl, ap, ◌∙◌, ⊎_elim, add-one, arith}
+use Rattle.std.proofs.Common.{◌≡◌, ℕ, zero, suc, ◌+◌, ◌-◌, true, false, cond, eqb, leb, List, [], ◌∷◌, length, Some, None, Option, sym, refl, ⊎_elim, add-one, arith}
 use Rattle.std.proofs.lemmas.Bool.{cases_Bool, or_from, eq-eqb}
 use Rattle.cell.specs.declared.command.Way.TheVariants.{Backward}
 use Rattle.cell.specs.Payload.{command_of, stream_of, message_of}

@@ -1,5 +1,5 @@
 -- When a payload is well formed.
-use Rattle.std.proofs.Common.{◌≡◌, ℕ, ◌≤◌, Bool, true, false, not, ◌&&◌, ◌||◌, eqb, leb, ◌⊎◌, List, length, Some, None, sym, ⊎_elim, arith}
+use Rattle.std.proofs.Common.{◌≡◌, ℕ, ◌≤◌, true, false, not, ◌||◌, eqb, leb, List, length, Some, ⊎_elim, arith}
 use Rattle.std.proofs.lemmas.Bool.{cases_Bool, and_left, and_right, and_from, or_from, or_left, or_right, not_from_true, not_from_false, eq-eqb, ne_eqb, le-leb}
 use Rattle.cell.specs.declared.error.CellError.{CellError}
 use Rattle.cell.specs.declared.command.Way.{Way}

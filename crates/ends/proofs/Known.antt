@@ -1,5 +1,5 @@
 -- Which numbers are commands, and where they may go.
-use Rattle.std.proofs.Common.{◌≡◌, ℕ, Bool, true, false, ◌||◌, eqb, None, refl, arith}
+use Rattle.std.proofs.Common.{◌≡◌, ℕ, false, None, refl, arith}
 use Rattle.std.proofs.lemmas.Bool.Decides.{nat_tests}
 use Rattle.cell.specs.declared.command.Command.{Command}
 use Rattle.cell.specs.declared.command.Command.TheVariants.{Begin, Data, End, Connected, Sendme, Drop}

@@ -1,5 +1,5 @@
 -- What an end answers, and what becomes of it and of the payload. The host says whether there is room for a payload that goes on.
-use Rattle.std.specs.Prelude.{◌≡◌, ℕ, suc, ◌+◌, ◌-◌, ◌<◌, ◌≤◌, Bool, true, false, cond, ◌||◌, ltb, leb, List, [], ◌∷◌, length, Some, None, Ok, Err, vec_len, Option, Result, ◌==◌, nat_le, nat_lt}
+use Rattle.std.specs.Prelude.{◌≡◌, ℕ, suc, ◌+◌, ◌-◌, ◌<◌, ◌≤◌, Bool, true, false, cond, ◌||◌, ltb, leb, List, length, Some, None, Ok, Err, vec_len, Option, Result, ◌==◌, nat_le, nat_lt}
 use Rattle.crypto.specs.declared.cipher.Cipher as cipher
 use Rattle.crypto.specs.declared.digest.Digest as digest
 use Rattle.cell.specs.Payload.{Message, blank}

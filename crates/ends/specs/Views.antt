@@ -1,5 +1,5 @@
 -- What the two ends of the code mean.
-use Rattle.std.specs.Prelude.{◌≡◌, ℕ, ◌≤◌, Bool, true, false, List, map, length, vec_items}
+use Rattle.std.specs.Prelude.{◌≡◌, ℕ, Bool, true, false, List, map, length, vec_items}
 use Rattle.crypto.specs.declared.digest.Digest as digest
 use Rattle.cell.specs.declared.command.Command.{Command}
 use Rattle.cell.specs.declared.command.Command.TheVariants.{Begin, Data, End, Connected, Sendme, Drop}

@@ -1,5 +1,5 @@
 -- Decimal numbers with one spelling each: no sign, no leading zero.
-use Rattle.std.specs.Prelude.{ℕ, ◌+◌, ◌-◌, ◌*◌, Bool, true, false, cond, ◌&&◌, List, [], ◌∷◌, Some, None, Option, ◌==◌, nat_le}
+use Rattle.std.specs.Prelude.{ℕ, ◌+◌, ◌-◌, ◌*◌, cond, ◌&&◌, List, [], ◌∷◌, Some, None, Option, ◌==◌, nat_le}
 
 -- the digits after a number n, the whole at most `most`
 abbrev pub continued : ℕ → ℕ → List ℕ → Option ℕ

@@ -2,6 +2,7 @@
 ghost use Rattle.std.specs.Prelude.{◌≡◌, ℕ, ◌&&◌, length, is_some, IfSome, is_ok, IfOk, if◌then◌else◌, Some, None, MatchResult, ◌==◌};
 ghost use Rattle.cell.specs.Refusals.{size_refusal};
 ghost use Rattle.cell.specs.Payload.{recognised_of, tag_of, tagged, zeroed};
+ghost use Rattle.model.specs.Ends.{recognises};
 ghost use Rattle.model.specs.Lists.{same};
 
 use cell::{CellError, PayloadReader, clear_tag, set_tag};
@@ -55,6 +56,19 @@ pub(crate) fn match_tag<D: Digest + Drop>(digest: &D, payload: &[u8]) -> Option<
     match PayloadReader::new(payload) {
         Ok(reader) => left_of(digest.trial(&unsealed(payload)), &reader.tag()),
         Err(_) => None,
+    }
+}
+
+/// The test at a hop: bytes 1 and 2 are zero, and bytes 5 to 8 are the digest's tag of the payload with those four zeroed. If it
+/// passes, the answer is the digest as it is once it took that payload. The digest asked stays as it was either way.
+pub(crate) fn recognise<D: Digest + Drop>(digest: &D, payload: &[u8]) -> Option<D>
+    ensures test { is_some result ≡ (length payload.now == 509 && recognises D.Digest.tags (D.Digest.state digest.now) payload.now) }
+    ensures taken { IfSome result (λ d. D.Digest.state d ≡ D.Digest.takes (D.Digest.state digest.now) (zeroed payload.now)) }
+{
+    if check_is_zero(payload) {
+        match_tag(digest, payload)
+    } else {
+        None
     }
 }
 

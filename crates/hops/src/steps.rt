@@ -8,7 +8,7 @@ ghost use Rattle.hops.specs.Views.{rules, end_seen};
 ghost use Rattle.hops.specs.Rows.{took_to};
 
 use crate::end::End;
-use crate::recognition::{check_is_zero, match_tag, seal};
+use crate::recognition::{match_tag, recognise, seal};
 use cell::CellError;
 use crypto::cipher::Cipher;
 use crypto::digest::Digest;
@@ -55,10 +55,7 @@ impl<C: Cipher, D: Digest + Drop> End<C, D> {
         ensures test { is_some result ≡ (length payload.now == 509 && recognises D.Digest.tags (D.Digest.state self.now.digest) payload.now) }
         ensures taken { IfSome result (λ d. D.Digest.state d ≡ D.Digest.takes (D.Digest.state self.now.digest) (zeroed payload.now)) }
     {
-        if !check_is_zero(payload) {
-            return None;
-        }
-        self.match_tag(payload)
+        recognise(&self.digest, payload)
     }
 
     /// The part of the test that asks the digest.

@@ -9,7 +9,7 @@ use Rattle.model.specs.Messages.{sendme, is_data, may_send, well_formed}
 use Rattle.model.specs.Ends.{Rules, layer_limit, recognises, worn_out, coincidence, recognised_at, unwrapped}
 use Rattle.model.specs.Streams.{client_sends, relay_sends, is_broken}
 use Rattle.model.specs.Flows.{Flow, step, message_limit, overruns, acknowledged}
-use Rattle.model.specs.Circuit.{Line, is_full, Relay, Circuit, Call, send, carry, reply, bring, acknowledge, destroy, Request, Refusal, Answer, refused}
+use Rattle.model.specs.Circuit.{Line, is_full, Relay, Circuit, Call, send, carry, reply, bring, acknowledge, destroy, Request, Refusal, Answer}
 use Rattle.model.specs.Calls.{refusal, headed, stops, passes_on, delivers, flow_at, client_found, relay_removes, send_unless, send_on, send_by, reply_on, reply_by, reply_at, reply_sendme, carry_on, carry_to, carry_cell, carry_at, arrived_at, arrive_cell, arrive, bring_cell, bring_at, act, lacks_room, asks_for, gated, called}
 use Rattle.model.specs.Refusals.{Row, row, full_line, full_at, oldest, oldest_of, oldest_at, coincidence_row, send_rows, client_acknowledge_rows, reply_rows, relay_acknowledge_rows, carry_rows, found_rows, arrive_rows, bring_rows, call_rows, refusals, refusal_of}
 use Rattle.model.proofs.Places.{nth-within, nth_past}

@@ -5,7 +5,7 @@ use Rattle.cell.specs.declared.command.Way.TheVariants.{Forward, Backward}
 use Rattle.model.specs.Messages.{sendme}
 use Rattle.model.specs.Ends.{Rules}
 use Rattle.model.specs.Circuit.{Circuit, Call, send, carry, reply, bring, acknowledge, destroy}
-use Rattle.model.specs.PlainMachine.{Entry, entry, Rows, entries, Turn, joined, carried, brought, turn}
+use Rattle.model.specs.PlainMachine.{Entry, Rows, entries, Turn, joined, carried, brought, turn}
 use Rattle.model.specs.Runs.{Posting, posted, relayed, journal}
 
 abbrev pub entry_of : Posting → Entry

@@ -1,12 +1,12 @@
 -- What each call makes of a circuit, and what it answers. A refused call leaves the circuit as it was.
-use Rattle.std.specs.Prelude.{ℕ, zero, suc, ◌+◌, ◌-◌, Bool, true, false, cond, not, ◌&&◌, ◌||◌, List, [], ◌∷◌, ◌++◌, map, length, Some, None, Option, ◌==◌, nat_le, nat_lt, slice_index_or, slice_set}
+use Rattle.std.specs.Prelude.{ℕ, suc, ◌+◌, ◌-◌, Bool, true, false, cond, not, ◌&&◌, ◌||◌, List, [], ◌∷◌, ◌++◌, map, length, Some, None, Option, ◌==◌, nat_le, nat_lt, slice_index_or, slice_set}
 use Rattle.cell.specs.Payload.{Message, blank, zeroed, command_of, stream_of, message_of}
 use Rattle.cell.specs.Frame.{relay_cell, cell_number, framed, number_of, cell_command_of, payload_of}
 use Rattle.model.specs.Lists.{nth, first_of}
 use Rattle.cell.specs.declared.command.Way.{Way}
 use Rattle.cell.specs.declared.command.Way.TheVariants.{Forward, Backward}
 use Rattle.model.specs.Messages.{sendme, is_data, may_send, well_formed}
-use Rattle.model.specs.Ends.{Rules, End, layer_limit, recognises, worn_out, worn_at, moved, took, sealed, wrapped, advanced, coincidence, recognised_at, unwrapped}
+use Rattle.model.specs.Ends.{Rules, layer_limit, recognises, worn_out, worn_at, moved, took, sealed, wrapped, advanced, coincidence, recognised_at, unwrapped}
 use Rattle.model.specs.Streams.{Streams, client_sends, relay_sends, client_receives, relay_receives, or_unchanged, mark_of, is_broken}
 use Rattle.model.specs.Flows.{Flow, step, message_limit, no_flow, posted, received, acknowledged, overruns}
 use Rattle.model.specs.Circuit.{Line, is_full, holding, Client, Relay, Circuit, Call, send, carry, reply, bring, acknowledge, destroy, Request, Refusal, Answer, refused, accepted, delivered}

@@ -1,6 +1,6 @@
 -- A circuit as values: the client, the relays, and the links of both ways. Hops and links count from 1, places in lists from 0,
 -- so that hop k and the links k stand at place k - 1.
-use Rattle.std.specs.Prelude.{ℕ, Bool, true, false, List, [], ◌∷◌, ◌++◌, length, nat_le}
+use Rattle.std.specs.Prelude.{ℕ, Bool, List, length, nat_le}
 use Rattle.cell.specs.Payload.{Message}
 use Rattle.cell.specs.declared.command.Way.{Way}
 use Rattle.model.specs.Ends.{End}

@@ -1,5 +1,5 @@
 -- Layers and recognition. An end is one side of one hop and way: the sender's and the receiver's are alike.
-use Rattle.std.specs.Prelude.{ℕ, zero, suc, ◌+◌, Bool, true, false, cond, ◌&&◌, ◌||◌, List, [], ◌∷◌, Some, None, Option, ◌==◌, nat_le}
+use Rattle.std.specs.Prelude.{ℕ, zero, suc, ◌+◌, Bool, false, cond, ◌&&◌, ◌||◌, List, [], ◌∷◌, Some, None, Option, ◌==◌, nat_le}
 use Rattle.cell.specs.Payload.{recognised_of, tag_of, tagged, zeroed}
 use Rattle.model.specs.Lists.{same}
 

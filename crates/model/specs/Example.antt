@@ -1,14 +1,13 @@
 -- Runs of small circuits of two hops, with a toy cipher and a toy digest: the definitions, computed.
 use Rattle.std.specs.Prelude.{◌≡◌, ℕ, ◌+◌, ◌%◌, true, false, List, [], ◌∷◌, ◌++◌, map, length, bit_xor}
 use Rattle.cell.specs.Payload.{Message}
-use Rattle.cell.specs.declared.command.Way.{Way}
 use Rattle.cell.specs.declared.command.Way.TheVariants.{Forward, Backward}
 use Rattle.model.specs.Lists.{total}
 use Rattle.model.specs.Messages.{message, sendme}
 use Rattle.model.specs.Ends.{Rules, End}
 use Rattle.model.specs.Streams.{no_streams}
 use Rattle.model.specs.Flows.{Flow, fresh_flow}
-use Rattle.model.specs.Circuit.{Line, Client, Relay, Circuit, Call, send, carry, reply, bring, acknowledge, destroy, Request, Answer, refused, accepted, delivered}
+use Rattle.model.specs.Circuit.{Line, Relay, Circuit, Call, send, carry, reply, bring, acknowledge, destroy, Request, Answer, refused, accepted, delivered}
 use Rattle.model.specs.Calls.{refusal, scratch_length, output_length}
 use Rattle.model.specs.PlainMachine.{entry, forward_crossings}
 use Rattle.model.specs.Runs.{World, answer, next, after, start, coincides, Calm}

@@ -1,5 +1,5 @@
 -- The law of the circuit, over whole runs.
-use Rattle.std.specs.Prelude.{◌≡◌, ℕ, zero, suc, ◌+◌, ◌-◌, ◌*◌, ◌<◌, ◌≤◌, Bool, true, false, cond, ◌||◌, List, [], ◌∷◌, ◌++◌, map, length, drop, Some, None, Option, ◌≢◌, nat_lt, slice_index_or}
+use Rattle.std.specs.Prelude.{◌≡◌, ℕ, zero, suc, ◌+◌, ◌*◌, ◌<◌, ◌≤◌, Bool, true, false, cond, ◌||◌, List, [], ◌∷◌, ◌++◌, map, length, drop, Some, None, Option, ◌≢◌, nat_lt, slice_index_or}
 use Rattle.cell.specs.Frame.{cell_number, framed, payload_of}
 use Rattle.model.specs.Lists.{nth, total, first_of}
 use Rattle.cell.specs.declared.command.Way.{Way}
@@ -11,7 +11,7 @@ use Rattle.model.specs.Flows.{fresh_flow, window_start, step}
 use Rattle.model.specs.Circuit.{Line, Relay, Circuit, Call, carry, bring, Request, Refusal, Answer, refused, accepted, delivered}
 use Rattle.model.specs.Calls.{flow_at, called, scratch_length, output_length}
 use Rattle.model.specs.Refusals.{refusals, refusal_of}
-use Rattle.model.specs.PlainMachine.{Entry, entries, fed, pipe, forward_crossings, backward_crossings}
+use Rattle.model.specs.PlainMachine.{entries, fed, pipe, forward_crossings, backward_crossings}
 use Rattle.model.specs.Runs.{Posting, World, is_accepted, handed_out, is_destroy, relay_flow, own_forward, own_backward, forward_ciphers, backward_ciphers, mark_given, answer, next, after, start, coincides, Calm}
 
 ---- links that hold a cell

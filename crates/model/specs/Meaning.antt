@@ -1,5 +1,4 @@
 -- The rules of a cipher and a digest, from what their traits say of them.
-use Rattle.std.specs.Prelude.{ℕ, List}
 use Rattle.crypto.specs.declared.cipher.Cipher as cipher
 use Rattle.crypto.specs.declared.digest.Digest as digest
 use Rattle.model.specs.Ends.{Rules}

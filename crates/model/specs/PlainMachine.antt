@@ -1,6 +1,6 @@
 -- The plain machine: a row of items for each link. It is fed a call's arguments and whether the call was accepted, and nothing
 -- else; it knows no cell, no cipher and no layer number, and refuses nothing.
-use Rattle.std.specs.Prelude.{ℕ, zero, suc, ◌+◌, ◌-◌, ◌*◌, Bool, true, false, cond, List, [], ◌∷◌, ◌++◌, map, length, Some, None, Option, ◌==◌, slice_index_or, slice_set}
+use Rattle.std.specs.Prelude.{ℕ, suc, ◌+◌, ◌-◌, ◌*◌, Bool, cond, List, [], ◌∷◌, ◌++◌, map, length, Some, None, Option, ◌==◌, slice_index_or, slice_set}
 use Rattle.cell.specs.Payload.{Message}
 use Rattle.cell.specs.declared.command.Way.{Way}
 use Rattle.cell.specs.declared.command.Way.TheVariants.{Forward, Backward}

@@ -1,15 +1,14 @@
 -- The table of refusals: for each call its tests in their order, each with the number and the place that it then names.
-use Rattle.std.specs.Prelude.{ℕ, zero, suc, ◌+◌, ◌-◌, Bool, true, false, cond, not, ◌&&◌, ◌||◌, List, [], ◌∷◌, ◌++◌, length, Some, None, Option, ◌==◌, nat_le, nat_lt}
+use Rattle.std.specs.Prelude.{ℕ, suc, ◌+◌, ◌-◌, Bool, true, false, cond, not, ◌&&◌, ◌||◌, List, [], ◌∷◌, length, Some, None, Option, ◌==◌, nat_le, nat_lt}
 use Rattle.cell.specs.Payload.{Message, blank, command_of}
 use Rattle.cell.specs.Frame.{payload_of}
 use Rattle.model.specs.Lists.{nth}
-use Rattle.cell.specs.declared.command.Way.{Way}
 use Rattle.cell.specs.declared.command.Way.TheVariants.{Forward, Backward}
 use Rattle.model.specs.Messages.{sendme, is_data, may_send, well_formed}
-use Rattle.model.specs.Ends.{Rules, End, recognises, coincidence, recognised_at, unwrapped}
+use Rattle.model.specs.Ends.{Rules, recognises, coincidence, recognised_at, unwrapped}
 use Rattle.model.specs.Streams.{client_sends, relay_sends, is_broken}
-use Rattle.model.specs.Flows.{Flow, step, message_limit, overruns}
-use Rattle.model.specs.Circuit.{Line, is_full, Client, Relay, Circuit, Call, send, carry, reply, bring, acknowledge, destroy, Request, Refusal, Answer, refused, accepted, delivered}
+use Rattle.model.specs.Flows.{step, message_limit, overruns}
+use Rattle.model.specs.Circuit.{Line, is_full, Relay, Circuit, Call, send, carry, reply, bring, acknowledge, destroy, Request, Refusal, Answer, refused, accepted, delivered}
 use Rattle.model.specs.Calls.{refusal, headed, flow_at, relay_removes, lacks_room, asks_for}
 
 abbrev pub Row : Type 0

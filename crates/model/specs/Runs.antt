@@ -1,18 +1,18 @@
 -- A run: the circuit with the plain machine beside it, what was posted, and what was accepted and delivered so far.
-use Rattle.std.specs.Prelude.{◌≡◌, ℕ, zero, suc, ◌+◌, ◌-◌, ◌*◌, ◌<◌, ◌≤◌, Bool, true, false, cond, not, ◌&&◌, ◌||◌, List, [], ◌∷◌, ◌++◌, map, length, take, drop, Some, None, Option, ◌==◌, slice_index_or}
+use Rattle.std.specs.Prelude.{◌≡◌, ℕ, zero, suc, ◌-◌, Bool, true, false, cond, ◌&&◌, ◌||◌, List, [], ◌∷◌, ◌++◌, map, take, drop, Some, None, Option, ◌==◌, slice_index_or}
 use Rattle.cell.specs.Payload.{Message, blank}
-use Rattle.cell.specs.Frame.{cell_number, framed, payload_of}
-use Rattle.model.specs.Lists.{nth, total, first_of}
+use Rattle.cell.specs.Frame.{payload_of}
+use Rattle.model.specs.Lists.{nth}
 use Rattle.cell.specs.declared.command.Way.{Way}
 use Rattle.cell.specs.declared.command.Way.TheVariants.{Forward, Backward}
-use Rattle.model.specs.Messages.{sendme, is_data, is_sendme}
+use Rattle.model.specs.Messages.{sendme}
 use Rattle.model.specs.Ends.{Rules, End, recognises, sealed}
 use Rattle.model.specs.Streams.{Streams, no_streams, relay_receives, client_receives, mark_of}
-use Rattle.model.specs.Flows.{Flow, no_flow, fresh_flow, window_start, step}
-use Rattle.model.specs.Circuit.{Line, Client, Relay, Circuit, Call, send, carry, reply, bring, acknowledge, destroy, Request, Refusal, Answer, refused, accepted, delivered}
-use Rattle.model.specs.Calls.{flow_at, gate, called, scratch_length, output_length}
-use Rattle.model.specs.Refusals.{refusals, refusal_of, oldest_at}
-use Rattle.model.specs.PlainMachine.{Entry, entry, Rows, Kind, entries, fed, pipe, forward_crossings, backward_crossings}
+use Rattle.model.specs.Flows.{Flow, no_flow}
+use Rattle.model.specs.Circuit.{Relay, Circuit, Call, send, carry, reply, bring, acknowledge, destroy, Request, Answer, refused, accepted, delivered}
+use Rattle.model.specs.Calls.{gate, called}
+use Rattle.model.specs.Refusals.{oldest_at}
+use Rattle.model.specs.PlainMachine.{Entry, entry, Rows, Kind, entries, fed}
 
 ---- answers
 abbrev pub is_accepted : Answer → Bool

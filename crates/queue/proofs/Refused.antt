@@ -1,5 +1,5 @@
 -- What a refusal says of the place, and what no refusal says.
-use Rattle.std.proofs.Common.{◌≡◌, ℕ, ◌+◌, ◌<◌, ◌≤◌, Bool, true, false, cond, ltb, leb, Some, None, Option, refl, ap, ◌∙◌, arith}
+use Rattle.std.proofs.Common.{◌≡◌, ℕ, ◌+◌, ◌<◌, ◌≤◌, Bool, true, false, cond, ltb, leb, Some, None, Option, refl, arith}
 use Rattle.std.proofs.lemmas.Bool.{and_from, lt-ltb, le-leb, leb-true, leb-false}
 use Rattle.queue.specs.declared.place.Place.{Place}
 use Rattle.queue.specs.declared.place.QueueError.{QueueError}

@@ -1,5 +1,5 @@
 -- A ring: a list of slots that is used round and round, of which some hold what waits.
-use Rattle.std.specs.Prelude.{ℕ, ◌+◌, ◌-◌, cond, List, ◌++◌, length, take, drop, nat_lt}
+use Rattle.std.specs.Prelude.{ℕ, ◌+◌, ◌-◌, cond, List, ◌++◌, take, drop, nat_lt}
 use Rattle.queue.specs.declared.place.Place.{Place}
 
 -- the slots from head on and round to it again

@@ -1,4 +1,3 @@
-use Rattle.model.proofs.Laws.{Laws}
 use Rattle.model.proofs.RunLaw.{run-law}
 use Rattle.model.proofs.TableLaw.{table-law}
 use Rattle.model.proofs.law_stands.Goals as goal

@@ -1,7 +1,6 @@
-use Rattle.std.proofs.Common.{◌≡◌, ℕ, ◌+◌, ◌<◌, [], ◌∷◌, ◌++◌, length, get_or, take, sym, ap, ◌∙◌, add-zero, arith, rules}
+use Rattle.std.proofs.Common.{◌≡◌, ◌+◌, ◌<◌, [], ◌∷◌, ◌++◌, length, take, sym, ap, ◌∙◌, add-zero, arith, rules}
 use Rattle.std.proofs.lemmas.List.{take_more, take_all, append_assoc, append-nil}
-use Rattle.queue.specs.declared.place.Place.{Place}
-use Rattle.queue.specs.Ring.{waiting, grown}
+use Rattle.queue.specs.Ring.{waiting}
 use Rattle.queue.proofs.put_all.Goals as goal
 
 pub loop-i-init : goal.loop-i-init

@@ -1,4 +1,4 @@
-use Rattle.std.proofs.Common.{◌≡◌, ◌+◌, ◌++◌, take}
+use Rattle.std.proofs.Common.{◌≡◌, ◌++◌, take}
 use Rattle.queue.specs.Ring.{waiting, grown}
 use Rattle.queue.proofs.put_all.Given as goal
 

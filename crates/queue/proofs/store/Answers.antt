@@ -1,4 +1,4 @@
-use Rattle.std.proofs.Common.{◌≡◌, ◌+◌, set, ap, ◌∙◌}
+use Rattle.std.proofs.Common.{◌+◌, set, ap, ◌∙◌}
 use Rattle.queue.specs.declared.place.Place.{Place}
 use Rattle.queue.specs.Ring.{waiting}
 use Rattle.queue.proofs.Turns.{waiting-set}

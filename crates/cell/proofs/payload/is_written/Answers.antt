@@ -1,4 +1,4 @@
-use Rattle.std.proofs.Common.{◌≡◌, ◌+◌, ◌-◌, ◌<◌, ◌≤◌, true, false, length, get_or, drop, replicate, sym, ap, ◌∙◌, arith}
+use Rattle.std.proofs.Common.{◌≡◌, ◌+◌, ◌-◌, ◌≤◌, true, length, drop, replicate, sym, ap, ◌∙◌, arith}
 use Rattle.cell.specs.Payload.{recognised_of, length_of, WrittenPayload}
 use Rattle.cell.proofs.Payloads.{rewritten-same}
 use Rattle.cell.proofs.Refused.{data-met}

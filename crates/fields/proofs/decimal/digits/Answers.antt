@@ -1,5 +1,5 @@
 -- Each way out of the loop, by what the digit is; a turn is one digit more.
-use Rattle.std.proofs.Common.{◌≡◌, ℕ, ◌+◌, ◌-◌, ◌*◌, ◌<◌, ◌≤◌, length, get_or, drop, sym, refl, ap, ◌∙◌, arith}
+use Rattle.std.proofs.Common.{sym, ◌∙◌, arith}
 use Rattle.std.proofs.lemmas.List.{at_drop_all}
 use Rattle.fields.specs.Decimal.{continued}
 use Rattle.fields.proofs.Decimals.{none_below, none_above, none-past, one_more}

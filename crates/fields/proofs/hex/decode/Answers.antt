@@ -1,5 +1,5 @@
 -- Each way out of the loop, and a turn of two digits.
-use Rattle.std.proofs.Common.{◌≡◌, ℕ, ◌+◌, ◌<◌, List, [], ◌∷◌, ◌++◌, length, drop, Some, None, vec_items, Option, sym, refl, ap, ◌∙◌, append-nil, arith}
+use Rattle.std.proofs.Common.{ℕ, ◌+◌, List, [], ◌∷◌, ◌++◌, drop, Some, vec_items, sym, ap, ◌∙◌, append-nil, arith}
 use Rattle.std.proofs.lemmas.List.{drop_all}
 use Rattle.fields.specs.Hex.{decoded, behind}
 use Rattle.fields.proofs.Hexes.{no-high, no-low, one_byte, odd}

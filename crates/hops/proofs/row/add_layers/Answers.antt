@@ -1,7 +1,7 @@
 -- One layer more with each turn, until a test passes.
-use Rattle.std.proofs.Common.{◌≡◌, ℕ, ◌+◌, ◌-◌, ◌<◌, ◌≤◌, Bool, true, false, List, map, length, drop, Some, None, sym, refl, ap, ◌∙◌, arith}
+use Rattle.std.proofs.Common.{◌≡◌, ◌+◌, ◌-◌, ◌<◌, ◌≤◌, true, false, map, length, drop, Some, sym, ap, ◌∙◌, arith}
 use Rattle.std.proofs.lemmas.List.{length-map}
-use Rattle.model.specs.Ends.{Rules, End, recognises}
+use Rattle.model.specs.Ends.{recognises}
 use Rattle.hops.specs.Rows.{layered, taken_at}
 use Rattle.hops.specs.Views.{rules, end_seen}
 use Rattle.hops.proofs.Tests.{at_length}

@@ -1,5 +1,5 @@
 -- Nothing, or the ends before d and then the one at d.
-use Rattle.std.proofs.Common.{◌≡◌, ℕ, ◌<◌, false, cond, leb, List, map, length, set, Some, sym, refl, ap, ◌∙◌, arith}
+use Rattle.std.proofs.Common.{◌≡◌, ◌<◌, false, cond, leb, map, length, set, Some, sym, ap, ◌∙◌, arith}
 use Rattle.std.proofs.lemmas.List.{length-map, map-set}
 use Rattle.std.proofs.lemmas.Bool.{cond-true, cond-false}
 use Rattle.model.specs.Lists.{nth}

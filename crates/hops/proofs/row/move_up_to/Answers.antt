@@ -1,5 +1,5 @@
 -- Each end before d is fresh, and moves on.
-use Rattle.std.proofs.Common.{◌≡◌, ℕ, ◌<◌, false, cond, leb, List, map, set, Some, sym, refl, ap, ◌∙◌, arith}
+use Rattle.std.proofs.Common.{◌≡◌, false, cond, leb, map, set, Some, sym, ap, ◌∙◌, arith}
 use Rattle.std.proofs.lemmas.List.{map-set}
 use Rattle.std.proofs.lemmas.Bool.{cond-false}
 use Rattle.model.specs.Lists.{nth}

@@ -1,7 +1,6 @@
 -- One layer less with each turn, until a test passes or no end is left.
-use Rattle.std.proofs.Common.{◌≡◌, ℕ, ◌+◌, ◌-◌, ◌<◌, ◌≤◌, Bool, true, false, List, [], map, length, drop, Some, None, Option, sym, refl, ap, ◌∙◌, arith}
+use Rattle.std.proofs.Common.{◌≡◌, ◌+◌, ◌<◌, true, false, [], map, length, drop, Some, None, sym, refl, ap, ◌∙◌, arith}
 use Rattle.std.proofs.lemmas.List.{length-map, drop_all}
-use Rattle.std.proofs.lemmas.Bool.{eq-eqb}
 use Rattle.cell.specs.Payload.{zeroed}
 use Rattle.model.specs.Lists.{nth}
 use Rattle.model.specs.Ends.{recognises, recognised_at, unwrapped}

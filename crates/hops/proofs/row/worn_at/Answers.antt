@@ -1,5 +1,5 @@
 -- Each end is looked at in its turn.
-use Rattle.std.proofs.Common.{◌≡◌, ◌+◌, true, false, [], map, drop, sym, ap, ◌∙◌, arith}
+use Rattle.std.proofs.Common.{◌≡◌, true, false, [], map, drop, sym, ap, ◌∙◌, arith}
 use Rattle.std.proofs.lemmas.List.{length-map, drop_all}
 use Rattle.model.specs.Ends.{worn_at}
 use Rattle.hops.specs.Views.{end_seen}

@@ -1,9 +1,9 @@
 -- The four ways out: no such end, another length, a coincidence, all layers.
-use Rattle.std.proofs.Common.{◌≡◌, ℕ, ◌+◌, ◌-◌, ◌<◌, ◌≤◌, List, map, length, drop, Some, None, Option, sym, refl, ap, ◌∙◌, arith}
+use Rattle.std.proofs.Common.{◌≡◌, ◌+◌, ◌-◌, ◌<◌, map, length, drop, Some, None, sym, ap, ◌∙◌, arith}
 use Rattle.std.proofs.lemmas.List.{length-map}
 use Rattle.model.specs.Lists.{nth}
 use Rattle.model.specs.Ends.{sealed}
-use Rattle.hops.specs.Rows.{from, layered, taken_at}
+use Rattle.hops.specs.Rows.{layered, taken_at}
 use Rattle.hops.specs.Views.{rules, end_seen}
 use Rattle.hops.proofs.Tests.{accepted-size, refused-size}
 use Rattle.hops.proofs.Walks.{nth_read, wrap-refusal, wrap_left_lem, wrap-past, wrap-short, from-before, advanced-to}

@@ -1,4 +1,4 @@
-use Rattle.std.proofs.Common.{◌≡◌, List, ◌++◌, map, take, drop}
+use Rattle.std.proofs.Common.{◌≡◌, ◌++◌, take, drop}
 use Rattle.links.specs.Rows.{rows, capacities, emptied}
 use Rattle.links.proofs.row.clear_all.Given as goal
 

@@ -1,6 +1,5 @@
-use Rattle.std.proofs.Common.{◌≡◌, ℕ, true, false, List, [], length, sym, refl, ap, ◌∙◌}
-use Rattle.links.specs.Lines.{look_answer, looked}
-use Rattle.links.specs.Rows.{rows, known, row, at_link}
+use Rattle.std.proofs.Common.{true, false, [], sym, refl, ap, ◌∙◌}
+use Rattle.links.specs.Rows.{rows, at_link}
 use Rattle.links.proofs.Answers.{seen, known-seen, oldest-answer, oldest-seen}
 use Rattle.links.proofs.row.oldest.Goals as goal
 

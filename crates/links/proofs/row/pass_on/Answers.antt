@@ -1,7 +1,7 @@
-use Rattle.std.proofs.Common.{◌≡◌, ℕ, ◌-◌, ◌<◌, true, false, List, [], ◌∷◌, ◌++◌, map, length, get_or, drop, set, Ok, Err, sym, refl, ap, ◌∙◌, arith}
+use Rattle.std.proofs.Common.{◌≡◌, ◌-◌, ◌<◌, true, false, [], ◌∷◌, ◌++◌, length, get_or, drop, set, Ok, Err, sym, refl, ap, ◌∙◌, arith}
 use Rattle.std.proofs.lemmas.List.{length-set}
 use Rattle.links.specs.Lines.{put_answer}
-use Rattle.links.specs.Rows.{rows, capacities, known, row, at_link, joined}
+use Rattle.links.specs.Rows.{rows, capacities, row, at_link, joined}
 use Rattle.links.proofs.Views.{row-set, row_same}
 use Rattle.links.proofs.Answers.{seen, known-seen, put-joins, put_keeps, pass-no-source, pass-no-target, pass-no-cell, pass-empty, pass-put}
 use Rattle.links.proofs.row.pass_on.Goals as goal

@@ -1,5 +1,5 @@
 -- The payload is well formed and in bounds: it is delivered.
-use Rattle.std.proofs.Common.{◌≡◌, true, false, not, sym, ap, ◌∙◌}
+use Rattle.std.proofs.Common.{◌≡◌, false, not, sym, ap, ◌∙◌}
 use Rattle.std.proofs.lemmas.Bool.{not_from_false, cond-true}
 use Rattle.cell.specs.Commands.{command_byte}
 use Rattle.cell.specs.Payload.{command_of, stream_of, message_of}

@@ -1,8 +1,8 @@
 -- The tests in their order: length, command, stream.
-use Rattle.std.proofs.Common.{◌≡◌, ℕ, true, false, not, ◌||◌, eqb, List, length, sym, ap, ◌∙◌}
+use Rattle.std.proofs.Common.{◌≡◌, true, not, ◌||◌, eqb, length, sym, ap, ◌∙◌}
 use Rattle.cell.proofs.Refused.{data-met}
 use Rattle.cell.specs.Commands.{command_byte, command_from}
-use Rattle.cell.specs.Payload.{command_of, stream_of, data_of, length_of, message_of}
+use Rattle.cell.specs.Payload.{command_of, stream_of, data_of, message_of}
 use Rattle.cell.specs.Refusals.{data_refusal}
 use Rattle.model.specs.Messages.{travels, streamless}
 use Rattle.messages.proofs.Known.{no_stream, goes-travels, unknown-travels}

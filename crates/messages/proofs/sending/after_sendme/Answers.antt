@@ -1,5 +1,5 @@
 -- A SENDME is no DATA, and acknowledging changes no count of messages.
-use Rattle.std.proofs.Common.{◌≡◌, true, not, ltb, leb, sym, ap, ◌∙◌, arith}
+use Rattle.std.proofs.Common.{◌≡◌, true, not, ltb, leb, ap, ◌∙◌, arith}
 use Rattle.std.proofs.lemmas.Bool.{and_from, not_from_false, le-ltb, cond-true}
 use Rattle.model.specs.Messages.{is_data}
 use Rattle.model.specs.Flows.{Flow, message_limit, posted, acknowledged}

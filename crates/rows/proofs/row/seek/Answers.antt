@@ -1,5 +1,5 @@
 -- One layer less with each turn, until a test passes or no end is left.
-use Rattle.std.proofs.Common.{◌≡◌, ◌+◌, ◌-◌, ◌<◌, true, false, ◌&&◌, eqb, [], map, length, drop, is_some, IfSome, Some, None, Option, sym, ap, ◌∙◌, subst, arith}
+use Rattle.std.proofs.Common.{◌≡◌, ◌+◌, ◌<◌, true, false, ◌&&◌, eqb, [], map, length, drop, is_some, IfSome, Some, None, Option, sym, ap, ◌∙◌, subst, arith}
 use Rattle.std.proofs.lemmas.List.{length-map, drop_all}
 use Rattle.cell.specs.Payload.{zeroed}
 use Rattle.model.specs.Lists.{nth}

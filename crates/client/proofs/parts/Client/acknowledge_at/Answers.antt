@@ -1,5 +1,5 @@
 -- An empty SENDME, by the rules for the hop at place d.
-use Rattle.std.proofs.Common.{◌≡◌, ℕ, ◌+◌, List, [], sym, refl, ap, ◌∙◌, arith}
+use Rattle.std.proofs.Common.{◌≡◌, ◌+◌, [], refl, ap, ◌∙◌, arith}
 use Rattle.cell.specs.declared.command.Way.TheVariants.{Forward}
 use Rattle.cell.specs.Commands.{command_byte}
 use Rattle.cell.specs.Payload.{blank}

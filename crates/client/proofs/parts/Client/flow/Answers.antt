@@ -1,5 +1,5 @@
 -- The element that was read.
-use Rattle.std.proofs.Common.{◌≡◌, vec_items, sym, ap, ◌∙◌, arith}
+use Rattle.std.proofs.Common.{vec_items, sym, ap, ◌∙◌, arith}
 use Rattle.std.proofs.lemmas.List.{get_or-map}
 use Rattle.model.specs.Flows.{no_flow}
 use Rattle.streams.specs.Views.{flow_seen}

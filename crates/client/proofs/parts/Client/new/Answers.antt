@@ -1,5 +1,5 @@
 -- As many ends backward as forward, and as many fresh flows.
-use Rattle.std.proofs.Common.{◌≡◌, ℕ, List, map, replicate, vec_items, vec_len, sym, refl, ap, ◌∙◌}
+use Rattle.std.proofs.Common.{◌≡◌, map, replicate, vec_items, vec_len, sym, refl, ap, ◌∙◌}
 use Rattle.model.specs.Flows.{fresh_flow}
 use Rattle.model.specs.Streams.{no_streams}
 use Rattle.streams.specs.Views.{flow_seen, streams_seen}

@@ -1,5 +1,5 @@
 -- The hop is there, and the work has 509 bytes.
-use Rattle.std.proofs.Common.{◌≡◌, map, Some, ap, ◌∙◌, arith}
+use Rattle.std.proofs.Common.{map, Some, ap, ◌∙◌, arith}
 use Rattle.std.proofs.lemmas.List.{length-map}
 use Rattle.hops.specs.Views.{rules, end_seen}
 use Rattle.client.proofs.Sends.{not-past}

@@ -1,9 +1,9 @@
 -- No test passed, or the first that did is that of the hop at place d.
-use Rattle.std.proofs.Common.{◌≡◌, ℕ, suc, ◌+◌, ◌<◌, true, false, cond, List, map, length, Some, None, Err, vec_items, vec_len, Option, sym, refl, ap, ◌∙◌, subst, arith}
+use Rattle.std.proofs.Common.{◌≡◌, suc, ◌+◌, List, map, length, Some, None, Err, vec_items, sym, refl, ap, ◌∙◌, subst, arith}
 use Rattle.std.proofs.lemmas.List.{length-map}
 use Rattle.cell.specs.Payload.{zeroed}
-use Rattle.model.specs.Ends.{worn_out, worn_at, advanced, recognised_at, unwrapped}
-use Rattle.model.specs.Calls.{Outcome, stops, refusal, client_delivery}
+use Rattle.model.specs.Ends.{worn_at, advanced, recognised_at, unwrapped}
+use Rattle.model.specs.Calls.{stops, refusal, client_delivery}
 use Rattle.hops.specs.declared.end.End.{End}
 use Rattle.rows.specs.Rows.{advanced_to, found_at, seek_left}
 use Rattle.hops.specs.Views.{rules, end_seen}

@@ -1,5 +1,5 @@
 -- The rules for the sender are the client's for the hop at place d.
-use Rattle.std.proofs.Common.{◌≡◌, ℕ, ◌+◌, List, sym, refl, ap, ◌∙◌}
+use Rattle.std.proofs.Common.{◌≡◌, ◌+◌, refl, ap, ◌∙◌}
 use Rattle.cell.specs.declared.command.Way.TheVariants.{Forward}
 use Rattle.cell.specs.Commands.{command_byte}
 use Rattle.cell.specs.Payload.{blank}

@@ -1,5 +1,5 @@
 -- Ends, flow and streams, each by its own call.
-use Rattle.std.proofs.Common.{◌≡◌, ℕ, ◌+◌, ◌<◌, true, cond, List, map, length, set, vec_items, sym, refl, ap, ◌∙◌, arith}
+use Rattle.std.proofs.Common.{◌≡◌, ◌+◌, ◌<◌, cond, map, length, set, vec_items, refl, ap, ◌∙◌, arith}
 use Rattle.std.specs.Vec.{with_items}
 use Rattle.std.proofs.lemmas.List.{take_at, length-map, map-set}
 use Rattle.std.proofs.lemmas.Bool.{cond-true}

@@ -1,11 +1,11 @@
 -- The payload is delivered: it is the hop's message, and the client has taken it.
-use Rattle.std.proofs.Common.{◌≡◌, ℕ, ◌+◌, ◌<◌, true, cond, List, map, length, set, vec_items, sym, refl, ap, ◌∙◌, arith}
+use Rattle.std.proofs.Common.{◌≡◌, ◌+◌, ◌<◌, cond, map, length, set, vec_items, refl, ap, ◌∙◌, arith}
 use Rattle.std.specs.Vec.{with_items}
 use Rattle.std.proofs.lemmas.List.{take_at, length-map, map-set}
 use Rattle.std.proofs.lemmas.Bool.{cond-true}
 use Rattle.cell.specs.Payload.{command_of, stream_of, zeroed}
 use Rattle.model.specs.Ends.{advanced}
-use Rattle.model.specs.Flows.{Flow, received}
+use Rattle.model.specs.Flows.{received}
 use Rattle.model.specs.Streams.{or_unchanged, client_receives}
 use Rattle.model.specs.Calls.{flow_at}
 use Rattle.streams.specs.Views.{flow_seen, streams_seen}

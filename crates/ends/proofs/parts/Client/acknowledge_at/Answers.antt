@@ -1,6 +1,6 @@
 -- An empty SENDME from the flow with 100 DATA acknowledged.
-use Rattle.std.proofs.Common.{◌≡◌, ℕ, ◌+◌, true, false, cond, not, ltb, leb, List, map, None, vec_items, sym, refl, ap, ◌∙◌, arith}
-use Rattle.std.proofs.lemmas.Bool.{le-ltb, cond-true, not-false, not-true}
+use Rattle.std.proofs.Common.{◌≡◌, ◌+◌, true, false, ltb, leb, List, map, None, sym, ap, ◌∙◌, arith}
+use Rattle.std.proofs.lemmas.Bool.{le-ltb, cond-true, not-true}
 use Rattle.cell.specs.Payload.{blank}
 use Rattle.model.specs.Messages.{is_data, sendme}
 use Rattle.model.specs.Ends.{worn_out, coincidence}

@@ -1,12 +1,12 @@
 -- The payload is well formed and in bounds: it is delivered.
-use Rattle.std.proofs.Common.{◌≡◌, ℕ, ◌+◌, ◌<◌, true, false, cond, not, List, map, length, set, Some, vec_items, vec_len, sym, refl, ap, ◌∙◌, arith}
+use Rattle.std.proofs.Common.{◌≡◌, ◌+◌, ◌<◌, true, false, cond, not, map, length, set, Some, vec_items, vec_len, sym, refl, ap, ◌∙◌, arith}
 use Rattle.std.specs.Vec.{with_items}
 use Rattle.std.proofs.lemmas.List.{take_at, length-map, map-set}
 use Rattle.std.proofs.lemmas.Bool.{cond-true}
 use Rattle.cell.specs.Commands.{command_byte}
 use Rattle.cell.specs.Payload.{command_of, stream_of, message_of, zeroed}
 use Rattle.model.specs.Ends.{advanced}
-use Rattle.model.specs.Flows.{Flow, received, overruns}
+use Rattle.model.specs.Flows.{received, overruns}
 use Rattle.model.specs.Streams.{mark_of, or_unchanged, client_receives}
 use Rattle.model.specs.Calls.{flow_at}
 use Rattle.streams.specs.Views.{flow_seen, streams_seen}

@@ -1,12 +1,11 @@
 -- Nothing forbids the message, and there is room.
-use Rattle.std.proofs.Common.{◌≡◌, ℕ, ◌+◌, true, false, ltb, leb, List, None, sym, refl, ap, ◌∙◌}
+use Rattle.std.proofs.Common.{◌+◌, ltb, leb, sym, ap, ◌∙◌}
 use Rattle.cell.specs.Commands.{command_byte}
 use Rattle.cell.specs.Payload.{blank}
 use Rattle.model.specs.Messages.{is_data, message}
 use Rattle.model.specs.Ends.{coincidence, wrapped}
 use Rattle.model.specs.Flows.{Flow, message_limit}
 use Rattle.model.specs.Calls.{flow_at, client_sent, client_send_refusal}
-use Rattle.streams.specs.Views.{flow_seen}
 use Rattle.hops.specs.Views.{rules}
 use Rattle.ends.specs.Answers.{if_sent, unless_coincides}
 use Rattle.ends.specs.Views.{client_seen}

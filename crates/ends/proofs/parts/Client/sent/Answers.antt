@@ -1,11 +1,10 @@
 -- Ends, flow and streams, each by its own call.
-use Rattle.std.proofs.Common.{◌≡◌, ℕ, ◌+◌, ◌<◌, true, cond, not, ◌&&◌, ltb, leb, List, map, length, set, vec_items, sym, refl, ap, ◌∙◌, arith}
+use Rattle.std.proofs.Common.{◌≡◌, ◌+◌, ◌<◌, cond, not, ltb, leb, map, length, set, vec_items, refl, ap, ◌∙◌, arith}
 use Rattle.std.specs.Vec.{with_items}
 use Rattle.std.proofs.lemmas.List.{take_at, length-map, map-set}
 use Rattle.std.proofs.lemmas.Bool.{cond-true, and_from, not_from_false}
 use Rattle.cell.specs.Commands.{command_byte}
 use Rattle.model.specs.Messages.{is_data}
-use Rattle.model.specs.Ends.{End}
 use Rattle.model.specs.Flows.{message_limit, posted}
 use Rattle.model.specs.Streams.{or_unchanged, client_sends}
 use Rattle.streams.specs.Views.{flow_seen, streams_seen}

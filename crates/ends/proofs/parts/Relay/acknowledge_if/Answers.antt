@@ -1,5 +1,5 @@
 -- An empty SENDME may go: it is no DATA, and acknowledging changes no count of messages.
-use Rattle.std.proofs.Common.{◌≡◌, ℕ, true, cond, leb, sym, ap, ◌∙◌, arith}
+use Rattle.std.proofs.Common.{◌≡◌, true, leb, sym, ap, ◌∙◌, arith}
 use Rattle.std.proofs.lemmas.Bool.{le-ltb, cond-true}
 use Rattle.model.specs.Messages.{is_data}
 use Rattle.model.specs.Flows.{Flow, message_limit, acknowledged}

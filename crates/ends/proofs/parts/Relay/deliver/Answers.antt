@@ -1,5 +1,5 @@
 -- The payload is well formed and in bounds: it is delivered.
-use Rattle.std.proofs.Common.{◌≡◌, ℕ, true, false, cond, not, leb, List, sym, refl, ap, ◌∙◌}
+use Rattle.std.proofs.Common.{◌≡◌, true, false, not, leb, sym, refl, ap, ◌∙◌}
 use Rattle.std.proofs.lemmas.Bool.{cond-true, cond-false}
 use Rattle.cell.specs.Commands.{command_byte}
 use Rattle.cell.specs.Payload.{command_of, stream_of, message_of, zeroed}

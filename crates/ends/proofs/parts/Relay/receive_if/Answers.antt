@@ -1,7 +1,6 @@
 -- The test passed: what the delivery makes of the payload is what the relay makes of it, with room or without.
-use Rattle.std.proofs.Common.{◌≡◌, ℕ, true, false, cond, List, length, sym, refl, ap, ◌∙◌, arith}
+use Rattle.std.proofs.Common.{◌≡◌, true, length, sym, ap, ◌∙◌, arith}
 use Rattle.model.specs.Ends.{recognises}
-use Rattle.model.specs.Circuit.{Refusal}
 use Rattle.model.specs.Calls.{stops, refusal, relay_delivery}
 use Rattle.hops.proofs.Tests.{at_length}
 use Rattle.hops.specs.Views.{rules}

@@ -1,4 +1,4 @@
-use Rattle.std.proofs.Common.{◌≡◌, ℕ, suc, ◌-◌, ◌/◌, ◌<◌, ◌≤◌, List, length, get_or, sym, refl, ap, ◌∙◌, arith}
+use Rattle.std.proofs.Common.{◌≡◌, suc, ◌-◌, ◌/◌, ◌≤◌, get_or, ap, ◌∙◌, arith}
 use Rattle.queue.specs.Ring.{waiting}
 use Rattle.links.specs.Cuts.{cut}
 use Rattle.links.proofs.Answers.{look-some}

@@ -1,4 +1,4 @@
-use Rattle.std.proofs.Common.{◌≡◌, ℕ, suc, ◌+◌, ◌*◌, ◌/◌, ◌<◌, ◌≤◌, List, [], ◌∷◌, ◌++◌, length, sym, refl, ap, ◌∙◌, arith}
+use Rattle.std.proofs.Common.{◌≡◌, suc, ◌+◌, ◌/◌, length, refl, ap, ◌∙◌, arith}
 use Rattle.queue.specs.Ring.{waiting}
 use Rattle.queue.proofs.Turns.{length-waiting}
 use Rattle.links.specs.Cuts.{cut}

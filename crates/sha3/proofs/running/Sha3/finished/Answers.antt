@@ -1,6 +1,5 @@
 use Rattle.std.proofs.Common.{◌≡◌, ℕ, length, ap, ◌∙◌}
 use Rattle.hash_blocks.specs.Blocks.{feed}
-use Rattle.hash_blocks.specs.Buffers.{running}
 use Rattle.sha3.specs.Digests.{Sha3State, state_of, finish}
 use Rattle.sha3.specs.Planes.{view}
 use Rattle.sha3.specs.Sha3.{absorb_block, padding}
