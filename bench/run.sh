@@ -1,7 +1,7 @@
 #!/bin/sh
 # Measures the proved relay work beside three peers on this machine. Run by hand:
 #
-#     rt check relay_bench        (makes target/bin/relay_bench)
+#     (cd crates/relay_bench && rt run -- 1)      (makes crates/relay_bench/out/relay_bench)
 #     bench/run.sh [COUNT [ROUNDS]]
 #
 # COUNT is the number of cells for each figure (100000), ROUNDS how often each program runs (3); the least time counts.
@@ -13,10 +13,10 @@ rounds=${2:-3}
 bench=$(cd "$(dirname "$0")" && pwd)
 root=$(dirname "$bench")
 made=$root/target/bench
-proved=$root/target/bin/relay_bench
+proved=$root/crates/relay_bench/out/relay_bench
 
 if [ ! -x "$proved" ]; then
-    echo "run.sh: $proved is missing. Make it with: rt check relay_bench" >&2
+    echo "run.sh: $proved is missing. Make it with: (cd crates/relay_bench && rt run -- 1)" >&2
     exit 1
 fi
 

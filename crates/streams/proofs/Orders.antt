@@ -1,6 +1,6 @@
 -- The client's operations keep the closing order.
 use Rattle.std.proofs.Common.{◌≡◌, ℕ, ◌<◌, ◌≤◌, Bool, true, false, cond, ◌&&◌, eqb, ltb, List, [], ◌∷◌, ◌++◌, length, IfSome, Some, None, Option, refl, arith}
-use Rattle.std.specs.List.{AllByRecursion as All}
+use Rattle.std.specs.List.{AllByRecursion}
 use Rattle.std.proofs.ByRecursion.{All-push, All-weaker}
 use Rattle.std.proofs.lemmas.Bool.Decides.{nat_tests}
 use Rattle.model.specs.Messages.{streamless}
@@ -13,7 +13,7 @@ SomeHas P o = IfSome o P
 -- what holds of every number holds after a command
 module _ (P : ℕ → Type 0) where
   abbrev Numbers : List StreamRecord → Type 0
-  Numbers rs = All (λ r. P r.number) rs
+  Numbers rs = AllByRecursion (λ r. P r.number) rs
 
   numbers-changed : (r : StreamRecord) (rs : List StreamRecord) (e : Effect) → P r.number → Numbers rs → SomeHas Numbers (changed r rs e)
   numbers-changed r rs (becomes s) p ps = (p, ps)
@@ -36,7 +36,7 @@ ascending-changed r rs (becomes s) up = up
 ascending-changed r rs frees up = up.1
 ascending-changed r rs forbidden up = tt
 
-ascending-in-front : (r : StreamRecord) (o : Option (List StreamRecord)) → SomeHas (All (λ later. r.number < later.number)) o → SomeHas Ascending o → SomeHas Ascending (in_front r o)
+ascending-in-front : (r : StreamRecord) (o : Option (List StreamRecord)) → SomeHas (AllByRecursion (λ later. r.number < later.number)) o → SomeHas Ascending o → SomeHas Ascending (in_front r o)
 ascending-in-front r None above up = tt
 ascending-in-front r (Some rs) above up = (above, up)
 
@@ -48,11 +48,11 @@ ascending-applied c n k (r ∷ rs) up =
       | false ↦ ascending-in-front r (applied c n k rs) (numbers-applied (λ m. r.number < m) c n k rs up.0) (ascending-applied c n k rs up.1)
     ]
 
-ascending-push : (rs : List StreamRecord) (x : StreamRecord) → All (λ r. r.number < x.number) rs → Ascending rs → Ascending (rs ++ x ∷ [])
+ascending-push : (rs : List StreamRecord) (x : StreamRecord) → AllByRecursion (λ r. r.number < x.number) rs → Ascending rs → Ascending (rs ++ x ∷ [])
 ascending-push [] x below up = (tt, tt)
 ascending-push (r ∷ rs) x below up = (All-push (λ later. r.number < later.number) rs x up.0 below.0, ascending-push rs x below.1 up.1)
 
-not-recorded : (n : ℕ) (rs : List StreamRecord) → All (λ later. n < later.number) rs → is_recorded n rs ≡ false
+not-recorded : (n : ℕ) (rs : List StreamRecord) → AllByRecursion (λ later. n < later.number) rs → is_recorded n rs ≡ false
 not-recorded n [] above = refl
 not-recorded n (r ∷ rs) above =
     let other : eqb r.number n ≡ false = grind (arith, nat_tests, above.0) in
@@ -62,10 +62,10 @@ once-from-ascending : (rs : List StreamRecord) → Ascending rs → EachOnce rs
 once-from-ascending [] up = tt
 once-from-ascending (r ∷ rs) up = (not-recorded r.number rs up.0, once-from-ascending rs up.1)
 
-closing-order : (s : Streams) → Ascending s.records → All (λ r. r.number ≤ s.highest) s.records → ClosingOrder s
+closing-order : (s : Streams) → Ascending s.records → AllByRecursion (λ r. r.number ≤ s.highest) s.records → ClosingOrder s
 closing-order s up most = record { once = once-from-ascending s.records up; ascending = up; highest = most }
 
-with-records-keeps : (s : Streams) (o : Option (List StreamRecord)) → SomeHas Ascending o → SomeHas (All (λ r. r.number ≤ s.highest)) o → KeepsClosingOrder s (or_unchanged s (with_records s o))
+with-records-keeps : (s : Streams) (o : Option (List StreamRecord)) → SomeHas Ascending o → SomeHas (AllByRecursion (λ r. r.number ≤ s.highest)) o → KeepsClosingOrder s (or_unchanged s (with_records s o))
 with-records-keeps s None up most was = was
 with-records-keeps s (Some rs) up most was = closing-order (record { records = rs; highest = s.highest }) up most
 

@@ -1,6 +1,6 @@
 -- The order in which the client's records stand, which is the order in which its streams are closed.
 use Rattle.std.specs.Prelude.{◌≡◌, ◌<◌, ◌≤◌, false, List, [], ◌∷◌}
-use Rattle.std.specs.List.{AllByRecursion as All}
+use Rattle.std.specs.List.{AllByRecursion}
 use Rattle.cell.specs.declared.command.Way.{Way}
 use Rattle.cell.specs.declared.command.Way.TheVariants.{Forward, Backward}
 use Rattle.model.specs.Streams.{Streams, StreamRecord, is_recorded}
@@ -13,12 +13,12 @@ EachOnce (r ∷ rs) = (is_recorded r.number rs ≡ false) × EachOnce rs
 -- each number is below those that began after it
 abbrev pub Ascending : List StreamRecord → Type 0
 Ascending [] = Unit {0}
-Ascending (r ∷ rs) = All (λ later. r.number < later.number) rs × Ascending rs
+Ascending (r ∷ rs) = AllByRecursion (λ later. r.number < later.number) rs × Ascending rs
 
 pub record ClosingOrder (s : Streams) : Type 0 where
   pub once : EachOnce s.records
   pub ascending : Ascending s.records
-  pub highest : All (λ r. r.number ≤ s.highest) s.records
+  pub highest : AllByRecursion (λ r. r.number ≤ s.highest) s.records
 
 -- an operation of the client from s to t leaves its records in closing order
 abbrev pub KeepsClosingOrder : Streams → Streams → Type 0
