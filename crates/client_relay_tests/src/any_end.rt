@@ -17,8 +17,8 @@ pub type Refusal = (u8, u16);
 pub type Answer = Result<Heading, Refusal>;
 
 /// The answer is the one that is due.
-pub fn same(answer: Answer, due: Answer) -> Result<(), Fail> {
-    assert_eq!(answer, due);
+pub fn same(rt: &impl Abort, answer: Answer, due: Answer) -> Result<(), Fail> {
+    assert_eq!(rt; answer, due);
     Ok(())
 }
 
@@ -33,8 +33,8 @@ pub fn same_refusal(
 }
 
 /// So are the bytes.
-pub fn same_bytes(found: &[u8], due: &[u8]) -> Result<(), Fail> {
-    assert!(found == due);
+pub fn same_bytes(rt: &impl Abort, found: &[u8], due: &[u8]) -> Result<(), Fail> {
+    assert!(rt; found == due);
     Ok(())
 }
 

@@ -7,6 +7,7 @@ use crypto::cipher::Cipher;
 use crypto::digest::Digest;
 use relay::Relay;
 use std::alloc::Global;
+use std::process::Abort;
 use std::test::*;
 
 /// The data of every message that is sent here.
@@ -78,15 +79,20 @@ fn has_data(payload: &[u8], len: usize, content: &[u8]) -> bool {
 }
 
 // What an end makes of a payload. If it is delivered it has the data that was sent, and if it is refused it stays as it was.
-fn taken<E: AnyEnd>(end: &mut E, step: Step, payload: &mut [u8; 509]) -> Result<Answer, Fail> {
+fn taken<E: AnyEnd>(
+    rt: &impl Abort,
+    end: &mut E,
+    step: Step,
+    payload: &mut [u8; 509],
+) -> Result<Answer, Fail> {
     let before = *payload;
     match end.take_in(payload) {
         Ok((heading, len)) => {
-            assert!(heading.0 == 0 || has_data(payload, len, content_of(step)));
+            assert!(rt; heading.0 == 0 || has_data(payload, len, content_of(step)));
             Ok(Ok(heading))
         }
         Err(refusal) => {
-            same_bytes(payload, &before)?;
+            same_bytes(rt, payload, &before)?;
             Ok(Err(refusal))
         }
     }
@@ -94,6 +100,7 @@ fn taken<E: AnyEnd>(end: &mut E, step: Step, payload: &mut [u8; 509]) -> Result<
 
 // What an end says or admits; a refusal leaves the payload as it was.
 fn said<E: AnyEnd>(
+    rt: &impl Abort,
     end: &mut E,
     step: Step,
     payload: &mut [u8; 509],
@@ -108,7 +115,7 @@ fn said<E: AnyEnd>(
     match answer {
         Ok(()) => Ok(None),
         Err(refusal) => {
-            same_bytes(payload, &before)?;
+            same_bytes(rt, payload, &before)?;
             Ok(Some(refusal))
         }
     }
@@ -116,36 +123,42 @@ fn said<E: AnyEnd>(
 
 impl<C: Cipher, D: Digest + Drop> Circuit<C, D> {
     /// Each step has its answer.
-    pub fn play(&mut self, steps: &[(Step, Answer)]) -> Result<(), Fail> {
+    pub fn play(&mut self, rt: &impl Abort, steps: &[(Step, Answer)]) -> Result<(), Fail> {
         for (step, answer) in steps {
-            same(self.step(*step)?, *answer)?;
+            same(rt, self.step(rt, *step)?, *answer)?;
         }
         Ok(())
     }
 
     /// The same many times.
-    pub fn repeat(&mut self, times: u32, step: Step, answer: Answer) -> Result<(), Fail> {
+    pub fn repeat(
+        &mut self,
+        rt: &impl Abort,
+        times: u32,
+        step: Step,
+        answer: Answer,
+    ) -> Result<(), Fail> {
         for _ in 0..times {
-            same(self.step(step)?, answer)?;
+            same(rt, self.step(rt, step)?, answer)?;
         }
         Ok(())
     }
 
-    fn step(&mut self, step: Step) -> Result<Answer, Fail> {
+    fn step(&mut self, rt: &impl Abort, step: Step) -> Result<Answer, Fail> {
         match step {
-            Step::Out(_, _, _) | Step::AdmitOut(_) => self.out(step),
-            Step::Back(hop, _, _) | Step::AdmitBack(hop) => self.back(hop, step),
+            Step::Out(_, _, _) | Step::AdmitOut(_) => self.out(rt, step),
+            Step::Back(hop, _, _) | Step::AdmitBack(hop) => self.back(rt, hop, step),
         }
     }
 
     // From the client, and from relay to relay outward, until one delivers or refuses it.
-    fn out(&mut self, step: Step) -> Result<Answer, Fail> {
+    fn out(&mut self, rt: &impl Abort, step: Step) -> Result<Answer, Fail> {
         let mut payload = [9u8; 509];
-        if let Some(refusal) = said(&mut self.client, step, &mut payload)? {
+        if let Some(refusal) = said(rt, &mut self.client, step, &mut payload)? {
             return Ok(Err(refusal));
         }
         for relay in self.relays.iter_mut() {
-            let answer = taken(relay, step, &mut payload)?;
+            let answer = taken(rt, relay, step, &mut payload)?;
             if answer != Ok((0, 0, 0, 0)) {
                 return Ok(answer);
             }
@@ -154,19 +167,19 @@ impl<C: Cipher, D: Digest + Drop> Circuit<C, D> {
     }
 
     // From the relay of a hop, and through those nearer to the client.
-    fn back(&mut self, hop: u16, step: Step) -> Result<Answer, Fail> {
+    fn back(&mut self, rt: &impl Abort, hop: u16, step: Step) -> Result<Answer, Fail> {
         let mut payload = [9u8; 509];
         let Some(relay) = self.relays.get_mut(hop.saturating_sub(1) as usize) else {
             return Err(Fail::new("no such relay"));
         };
-        if let Some(refusal) = said(relay, step, &mut payload)? {
+        if let Some(refusal) = said(rt, relay, step, &mut payload)? {
             return Ok(Err(refusal));
         }
         for i in (0..hop.saturating_sub(1)).rev() {
             if let Some(nearer) = self.relays.get_mut(i as usize) {
-                assert!(nearer.go_by(&mut payload));
+                assert!(rt; nearer.go_by(&mut payload));
             }
         }
-        taken(&mut self.client, step, &mut payload)
+        taken(rt, &mut self.client, step, &mut payload)
     }
 }

@@ -10,17 +10,20 @@ type Keyed = Circuit<CounterMode, Sha1>;
 #[test]
 fn forward(rt: HostRuntime) -> Result<(), Fail> {
     let mut three = Keyed::new(rt.alloc(), &[1, 1, 1], &[2, 2, 2])?;
-    three.play(&[
-        (Step::Out(3, 10, 0), Err((11, 1))),
-        (Step::Out(1, 10, 0), Ok((1, 10, 0, 0))),
-        (Step::Out(3, 10, 0), Ok((3, 10, 0, 0))),
-        (Step::Out(3, 10, 0), Err((11, 1))),
-        (Step::Out(2, 10, 0), Ok((2, 10, 0, 0))),
-    ])?;
+    three.play(
+        &rt,
+        &[
+            (Step::Out(3, 10, 0), Err((11, 1))),
+            (Step::Out(1, 10, 0), Ok((1, 10, 0, 0))),
+            (Step::Out(3, 10, 0), Ok((3, 10, 0, 0))),
+            (Step::Out(3, 10, 0), Err((11, 1))),
+            (Step::Out(2, 10, 0), Ok((2, 10, 0, 0))),
+        ],
+    )?;
     for hop in [3u16, 1, 2, 3, 3, 2, 1, 1, 2, 3] {
-        three.repeat(1, Step::Out(hop, 10, 0), Ok((hop, 10, 0, 0)))?;
+        three.repeat(&rt, 1, Step::Out(hop, 10, 0), Ok((hop, 10, 0, 0)))?;
     }
-    three.repeat(1, Step::Out(3, 1, 5), Ok((3, 1, 5, 0)))
+    three.repeat(&rt, 1, Step::Out(3, 1, 5), Ok((3, 1, 5, 0)))
 }
 
 // On the way back no sender can see it. Here no cell coincides: hop 1 replies before hop 3, and hop 2 before hop 3 does again.
@@ -28,7 +31,7 @@ fn forward(rt: HostRuntime) -> Result<(), Fail> {
 fn backward(rt: HostRuntime) -> Result<(), Fail> {
     let mut three = Keyed::new(rt.alloc(), &[1, 1, 1], &[2, 2, 2])?;
     for hop in [1u16, 3, 2, 3, 1, 2, 3, 3, 2, 1] {
-        three.repeat(1, Step::Back(hop, 10, 0), Ok((hop, 10, 0, 0)))?;
+        three.repeat(&rt, 1, Step::Back(hop, 10, 0), Ok((hop, 10, 0, 0)))?;
     }
     Ok(())
 }
@@ -38,9 +41,12 @@ fn backward(rt: HostRuntime) -> Result<(), Fail> {
 #[test]
 fn backward_coincidence(rt: HostRuntime) -> Result<(), Fail> {
     let mut three = Keyed::new(rt.alloc(), &[1, 1, 1], &[2, 2, 2])?;
-    three.play(&[
-        (Step::Back(3, 10, 0), Ok((1, 10, 0, 0))),
-        (Step::Back(3, 10, 0), Ok((1, 10, 0, 0))),
-        (Step::Back(2, 10, 0), Err((13, 3))),
-    ])
+    three.play(
+        &rt,
+        &[
+            (Step::Back(3, 10, 0), Ok((1, 10, 0, 0))),
+            (Step::Back(3, 10, 0), Ok((1, 10, 0, 0))),
+            (Step::Back(2, 10, 0), Err((13, 3))),
+        ],
+    )
 }

@@ -3,6 +3,7 @@ use crate::any_end::{Answer, AnyEnd, same, same_bytes};
 use crypto::cipher::Cipher;
 use crypto::digest::Digest;
 use hops::End;
+use std::process::Abort;
 use std::test::*;
 
 /// Command, stream and length field.
@@ -22,6 +23,7 @@ fn blank(forged: Forged) -> [u8; 509] {
 /// What an end answers to a payload that is sealed and has the sender's layer. One that is taken has lost the layer, and the sender
 /// moves on; one that is refused stays as it was, and the sender is where it was.
 pub fn forge<E: AnyEnd, C: Cipher, D: Digest + Drop>(
+    rt: &impl Abort,
     end: &mut E,
     sender: &mut End<C, D>,
     forged: Forged,
@@ -35,12 +37,12 @@ pub fn forge<E: AnyEnd, C: Cipher, D: Digest + Drop>(
     let covered = payload;
     match end.take_in(&mut payload) {
         Ok((heading, _)) => {
-            same_bytes(&payload, &sealed)?;
+            same_bytes(rt, &payload, &sealed)?;
             sender.take_on(taken);
             Ok(Ok(heading))
         }
         Err(refusal) => {
-            same_bytes(&payload, &covered)?;
+            same_bytes(rt, &payload, &covered)?;
             Ok(Err(refusal))
         }
     }
@@ -48,18 +50,20 @@ pub fn forge<E: AnyEnd, C: Cipher, D: Digest + Drop>(
 
 /// Each payload has its answer.
 pub fn forge_all<E: AnyEnd, C: Cipher, D: Digest + Drop>(
+    rt: &impl Abort,
     end: &mut E,
     sender: &mut End<C, D>,
     all: &[(Forged, Answer)],
 ) -> Result<(), Fail> {
     for (forged, answer) in all {
-        same(forge(end, sender, *forged)?, *answer)?;
+        same(rt, forge(rt, end, sender, *forged)?, *answer)?;
     }
     Ok(())
 }
 
 /// The same many times.
 pub fn forge_many<E: AnyEnd, C: Cipher, D: Digest + Drop>(
+    rt: &impl Abort,
     end: &mut E,
     sender: &mut End<C, D>,
     times: u32,
@@ -67,7 +71,7 @@ pub fn forge_many<E: AnyEnd, C: Cipher, D: Digest + Drop>(
     answer: Answer,
 ) -> Result<(), Fail> {
     for _ in 0..times {
-        same(forge(end, sender, forged)?, answer)?;
+        same(rt, forge(rt, end, sender, forged)?, answer)?;
     }
     Ok(())
 }

@@ -11,12 +11,13 @@ use std::test::*;
 // Layers change nothing here, so what another digest sealed has zero check bytes and a wrong tag. None of 4,000 such cells leaves
 // a trace in the relay's digest: it takes each of the 80 cells between them.
 #[test]
-fn no_trace() -> Result<(), Fail> {
+fn no_trace(rt: HostRuntime) -> Result<(), Fail> {
     let mut second: Relay<Identity, Sha1> = relay(2, false, 1, 2)?;
     let mut sender: End<Identity, Sha1> = end(1);
     let mut other: End<Identity, Sha1> = end(3);
     for stream in 1..41u8 {
         forge_many(
+            &rt,
             &mut second,
             &mut other,
             100,
@@ -24,6 +25,7 @@ fn no_trace() -> Result<(), Fail> {
             Ok((0, 0, 0, 0)),
         )?;
         forge_all(
+            &rt,
             &mut second,
             &mut sender,
             &[

@@ -15,31 +15,36 @@ type Keyed = Circuit<CounterMode, Sha1>;
 fn at_the_client(rt: HostRuntime) -> Result<(), Fail> {
     let mut one = Keyed::new(rt.alloc(), &[1], &[2])?;
     for stream in 1..33u16 {
-        one.repeat(1, Step::Out(1, 1, stream), Ok((1, 1, stream, 0)))?;
+        one.repeat(&rt, 1, Step::Out(1, 1, stream), Ok((1, 1, stream, 0)))?;
     }
-    one.play(&[
-        (Step::Out(1, 1, 33), Err((8, 1))),
-        (Step::Out(1, 3, 7), Ok((1, 3, 7, 0))),
-        (Step::Out(1, 1, 33), Ok((1, 1, 33, 0))),
-        (Step::Out(1, 1, 34), Err((8, 1))),
-        (Step::Back(1, 3, 8), Ok((1, 3, 8, 0))),
-        (Step::Out(1, 1, 34), Ok((1, 1, 34, 0))),
-    ])
+    one.play(
+        &rt,
+        &[
+            (Step::Out(1, 1, 33), Err((8, 1))),
+            (Step::Out(1, 3, 7), Ok((1, 3, 7, 0))),
+            (Step::Out(1, 1, 33), Ok((1, 1, 33, 0))),
+            (Step::Out(1, 1, 34), Err((8, 1))),
+            (Step::Back(1, 3, 8), Ok((1, 3, 8, 0))),
+            (Step::Out(1, 1, 34), Ok((1, 1, 34, 0))),
+        ],
+    )
 }
 
 // A client keeps to 32, so a sender that keeps no rule sends one more: it is late, until an END frees a record.
 #[test]
-fn at_a_relay() -> Result<(), Fail> {
+fn at_a_relay(rt: HostRuntime) -> Result<(), Fail> {
     let mut fourth: Relay<CounterMode, Sha1> = relay(4, false, 1, 2)?;
     let mut sender: End<CounterMode, Sha1> = end(1);
     for stream in 1..33u8 {
         forge_all(
+            &rt,
             &mut fourth,
             &mut sender,
             &[(Forged(1, stream, 0), Ok((4, 1, stream as u16, 0)))],
         )?;
     }
     forge_all(
+        &rt,
         &mut fourth,
         &mut sender,
         &[
@@ -54,10 +59,11 @@ fn at_a_relay() -> Result<(), Fail> {
 
 // BEGIN of stream 0, a second BEGIN, and DATA before the stream is open.
 #[test]
-fn late() -> Result<(), Fail> {
+fn late(rt: HostRuntime) -> Result<(), Fail> {
     let mut fourth: Relay<CounterMode, Sha1> = relay(4, false, 1, 2)?;
     let mut sender: End<CounterMode, Sha1> = end(1);
     forge_all(
+        &rt,
         &mut fourth,
         &mut sender,
         &[
@@ -75,19 +81,22 @@ fn late() -> Result<(), Fail> {
 #[test]
 fn in_order(rt: HostRuntime) -> Result<(), Fail> {
     let mut one = Keyed::new(rt.alloc(), &[1], &[2])?;
-    one.play(&[
-        (Step::Back(1, 4, 9), Err((8, 1))),
-        (Step::Out(1, 1, 9), Ok((1, 1, 9, 0))),
-        (Step::Out(1, 1, 9), Err((8, 1))),
-        (Step::Out(1, 2, 9), Err((8, 1))),
-        (Step::Back(1, 2, 9), Err((8, 1))),
-        (Step::Back(1, 4, 9), Ok((1, 4, 9, 0))),
-        (Step::Back(1, 4, 9), Err((8, 1))),
-        (Step::Out(1, 2, 9), Ok((1, 2, 9, 0))),
-        (Step::Back(1, 2, 9), Ok((1, 2, 9, 0))),
-        (Step::Out(1, 3, 9), Ok((1, 3, 9, 0))),
-        (Step::Back(1, 2, 9), Err((8, 1))),
-        (Step::Out(1, 1, 9), Err((8, 1))),
-        (Step::Out(1, 1, 10), Ok((1, 1, 10, 0))),
-    ])
+    one.play(
+        &rt,
+        &[
+            (Step::Back(1, 4, 9), Err((8, 1))),
+            (Step::Out(1, 1, 9), Ok((1, 1, 9, 0))),
+            (Step::Out(1, 1, 9), Err((8, 1))),
+            (Step::Out(1, 2, 9), Err((8, 1))),
+            (Step::Back(1, 2, 9), Err((8, 1))),
+            (Step::Back(1, 4, 9), Ok((1, 4, 9, 0))),
+            (Step::Back(1, 4, 9), Err((8, 1))),
+            (Step::Out(1, 2, 9), Ok((1, 2, 9, 0))),
+            (Step::Back(1, 2, 9), Ok((1, 2, 9, 0))),
+            (Step::Out(1, 3, 9), Ok((1, 3, 9, 0))),
+            (Step::Back(1, 2, 9), Err((8, 1))),
+            (Step::Out(1, 1, 9), Err((8, 1))),
+            (Step::Out(1, 1, 10), Ok((1, 1, 10, 0))),
+        ],
+    )
 }

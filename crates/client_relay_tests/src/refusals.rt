@@ -20,12 +20,14 @@ type KeyedEnd = End<CounterMode, Sha1>;
 
 // 14 and 15 at an end that has never received; `astray` is a command of the other way. Then a DROP is taken.
 fn refuses_all<E: AnyEnd, C: Cipher, D: Digest + Drop>(
+    rt: &impl Abort,
     end: &mut E,
     sender: &mut End<C, D>,
     at: u16,
     astray: u8,
 ) -> Result<(), Fail> {
     forge_all(
+        rt,
         end,
         sender,
         &[
@@ -59,7 +61,7 @@ fn counts_late<E: AnyEnd, C: Cipher, D: Digest + Drop>(
         (1, Err((15, at)), None),
     ];
     for (times, answer, admitted) in rows {
-        forge_many(end, sender, times, Forged(2, 9, 0), answer)?;
+        forge_many(rt, end, sender, times, Forged(2, 9, 0), answer)?;
         if let Some(due) = admitted {
             same_refusal(rt, admits(end, at), due)?;
         }
@@ -78,11 +80,12 @@ fn at_the_last_relay(rt: HostRuntime) -> Result<(), Fail> {
     let mut sender: KeyedEnd = end(1);
     let mut stranger: KeyedEnd = end(9);
     forge_all(
+        &rt,
         &mut last,
         &mut stranger,
         &[(Forged(10, 0, 0), Err((13, 3)))],
     )?;
-    refuses_all(&mut last, &mut sender, 3, 4)?;
+    refuses_all(&rt, &mut last, &mut sender, 3, 4)?;
     counts_late(&rt, &mut last, &mut sender, 3)
 }
 
@@ -93,11 +96,12 @@ fn at_the_client(rt: HostRuntime) -> Result<(), Fail> {
     let mut sender: KeyedEnd = end(1);
     let mut stranger: KeyedEnd = end(9);
     forge_all(
+        &rt,
         &mut two.client,
         &mut stranger,
         &[(Forged(10, 0, 0), Err((13, 2)))],
     )?;
-    refuses_all(&mut two.client, &mut sender, 1, 1)?;
+    refuses_all(&rt, &mut two.client, &mut sender, 1, 1)?;
     counts_late(&rt, &mut two.client, &mut sender, 1)
 }
 
@@ -130,19 +134,22 @@ fn of_sizes(rt: HostRuntime) -> Result<(), Fail> {
 #[test]
 fn before_sending(rt: HostRuntime) -> Result<(), Fail> {
     let mut one = Keyed::new(rt.alloc(), &[1], &[2])?;
-    one.play(&[
-        (Step::Out(0, 9, 0), Err((7, 0))),
-        (Step::Out(2, 9, 0), Err((7, 2))),
-        (Step::AdmitOut(2), Err((7, 2))),
-        (Step::Out(1, 4, 0), Err((5, 1))),
-        (Step::Out(1, 5, 0), Err((5, 1))),
-        (Step::Back(1, 1, 0), Err((5, 1))),
-        (Step::Back(1, 5, 0), Err((5, 1))),
-        (Step::Out(1, 10, 1), Err((8, 1))),
-        (Step::Back(1, 10, 1), Err((8, 1))),
-        (Step::AdmitOut(1), Err((12, 1))),
-        (Step::AdmitBack(1), Err((12, 1))),
-        (Step::Out(1, 1, 1), Ok((1, 1, 1, 0))),
-        (Step::Back(1, 4, 1), Ok((1, 4, 1, 0))),
-    ])
+    one.play(
+        &rt,
+        &[
+            (Step::Out(0, 9, 0), Err((7, 0))),
+            (Step::Out(2, 9, 0), Err((7, 2))),
+            (Step::AdmitOut(2), Err((7, 2))),
+            (Step::Out(1, 4, 0), Err((5, 1))),
+            (Step::Out(1, 5, 0), Err((5, 1))),
+            (Step::Back(1, 1, 0), Err((5, 1))),
+            (Step::Back(1, 5, 0), Err((5, 1))),
+            (Step::Out(1, 10, 1), Err((8, 1))),
+            (Step::Back(1, 10, 1), Err((8, 1))),
+            (Step::AdmitOut(1), Err((12, 1))),
+            (Step::AdmitBack(1), Err((12, 1))),
+            (Step::Out(1, 1, 1), Ok((1, 1, 1, 0))),
+            (Step::Back(1, 4, 1), Ok((1, 4, 1, 0))),
+        ],
+    )
 }
