@@ -1,11 +1,11 @@
 -- The steps of the key expansion's two loops.
 -- Assumes nothing.
-use Rattle.std.proofs.Common.{◌≡◌, ℕ, suc, ◌+◌, ◌-◌, ◌<◌, ◌≤◌, List, [], ◌∷◌, ◌++◌, map, length, get_or, take, set, ap, ◌∙◌, arith, get_or-take}
+use Rattle.std.proofs.Common.{◌≡◌, ℕ, suc, ◌+◌, ◌-◌, ◌<◌, ◌≤◌, List, [], ◌∷◌, ◌++◌, map, length, get_or, take, drop, set, ap, ◌∙◌, arith, get_or-take}
 use lib.Bits.{bit_xor}
 use Rattle.std.specs.List.{range_with_len}
-use Rattle.std.proofs.lemmas.List.{take_more_set}
-use Rattle.std.proofs.lemmas.List.FromFn.{map-range_with_len_more}
-use Rattle.aes.specs.KeyExpansion.{extended, next, temp}
+use Rattle.std.proofs.lemmas.List.{take_more_set, take_at, length-append, length-take, length-drop}
+use Rattle.std.proofs.lemmas.List.FromFn.{map-range_with_len_more, length-map-range_with_len}
+use Rattle.aes.specs.KeyExpansion.{extended, key_words, next, temp, word_at}
 
 extended-more : (nk i : ℕ) (xs : List ℕ) → nk ≤ i
     → extended nk (i + 1 - nk) xs ≡ extended nk (i - nk) xs ++ (next nk i (extended nk (i - nk) xs) ∷ [])
@@ -31,3 +31,22 @@ take-counted-more f i w lt was =
     let a = take_more_set w i (f i) lt in
     let b = map-range_with_len_more f 0 i i (omega arith) in
     cc
+
+-- the key's words written over the first nk of zs
+module _ (nk : ℕ) (ws zs key : List ℕ) (fits : nk ≤ length zs) (is : ws ≡ key_words (length (take nk zs)) key) where
+  length-begun : length ws ≡ nk
+  unfolding key_words
+  length-begun =
+      let e = length-map-range_with_len (word_at key) 0 (length (take nk zs)) in
+      let f : length ws ≡ length (take nk zs) = ap length is ∙ e in
+      f ∙ simp length-take (omega arith)
+
+  pub begun-whole : length (ws ++ drop nk zs) ≡ length zs
+  begun-whole = let e = length-begun in simp (length-append, length-drop) (omega arith)
+
+  pub begun-words : take nk (ws ++ drop nk zs) ≡ extended nk (nk - nk) (key_words nk key)
+  unfolding extended
+  begun-words =
+      let e : nk - nk ≡ 0 = omega arith in
+      let f : length (take nk zs) ≡ nk = simp length-take (omega arith) in
+      rw e (take_at ws (drop nk zs) nk length-begun ∙ is ∙ ap (λ (n : ℕ). key_words n key) f)

@@ -1,3 +1,4 @@
 mod Expansion
 mod Blocks
 mod Points
+pub mod Chunks

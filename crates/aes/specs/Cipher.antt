@@ -1,11 +1,10 @@
 -- The cipher of FIPS 197 on a state of 16 bytes. Byte i of the state is row i mod 4 of column i div 4.
 -- Assumes nothing.
-use Rattle.std.specs.Prelude.{ℕ, zero, suc, ◌+◌, ◌-◌, ◌*◌, ◌/◌, ◌%◌, List, [], ◌∷◌, ◌++◌, map, take, slice_index}
+use Rattle.std.specs.Prelude.{ℕ, zero, suc, ◌+◌, ◌-◌, ◌*◌, ◌/◌, ◌%◌, List, [], ◌∷◌, ◌++◌, map, slice_index}
 use Rattle.std.specs.List.{range_with_len}
 use Rattle.aes_tables.specs.Field.{S}
 use Rattle.aes_tables.specs.Words.{bytes, mix_column, xors}
 use Rattle.aes.specs.declared.Columns.{Columns}
-use Rattle.aes.specs.declared.KeySchedule.{KeySchedule}
 
 -- row r of column c
 abbrev pub entry : List ℕ → ℕ → ℕ → ℕ
@@ -61,7 +60,3 @@ round_column s k j =
     xors
     (mix_column (S (column_at s j / 16777216 % 256)) (S (column_at s (j + 1) / 65536 % 256)) (S (column_at s (j + 2) / 256 % 256)) (S (column_at s (j + 3) % 256)))
     (bytes (column_at k j))
-
--- the words of a schedule: 4 (Nr + 1) of them
-abbrev pub used : KeySchedule → List ℕ
-used k = take (4 * (k.rounds + 1)) k.words

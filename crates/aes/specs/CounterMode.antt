@@ -1,7 +1,6 @@
 -- The layers of counter mode.
 -- Assumes nothing.
 use Rattle.std.specs.Prelude.{ℕ, ◌+◌, ◌*◌, List}
-use Rattle.aes.specs.Cipher.{used}
 use Rattle.aes.specs.KeyExpansion.{expanded}
 use Rattle.aes.specs.KeyStream.{streamed}
 use Rattle.aes.specs.Payload.{on_payload}
@@ -17,4 +16,4 @@ layered nk key n p = layer (nk + 6) (expanded nk key) n p
 
 -- what a CounterMode does to a payload, to add layer n and to remove it
 abbrev pub counter_layer : CounterMode → ℕ → List ℕ → List ℕ
-counter_layer c n p = on_payload (layer c.schedule.rounds (used c.schedule) n) p
+counter_layer c n p = on_payload (layer c.schedule.rounds c.schedule.words n) p

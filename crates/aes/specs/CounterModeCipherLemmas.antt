@@ -1,17 +1,21 @@
+-- A layer of counter mode keeps the length, and undoes itself.
+-- Assumes nothing.
 use Rattle.std.specs.Prelude.{◌≡◌, ℕ, ◌*◌, List, length}
-use Rattle.aes.specs.Cipher.{used}
+use Rattle.std.proofs.Common.{◌∙◌}
 use Rattle.aes.specs.CounterMode.{counter_layer, layer}
 use Rattle.aes.specs.declared.CounterMode.{CounterMode}
-use Rattle.aes.specs.Layers.{length-on_payload, length-streamed, on_payload-twice, streamed-twice}
+use Rattle.aes.specs.Layers.{length-streamed, streamed-twice}
+use Rattle.aes.specs.PayloadLaws.{length-on_payload, on_payload-undone}
 
-pub twice : (c : CounterMode) (n : ℕ) (p : List ℕ) → length p ≡ 509 → counter_layer c n (counter_layer c n p) ≡ p
-twice c n p is =
-    let nr = c.schedule.rounds in
-    let w = used c.schedule in
-    on_payload-twice (layer nr w n) (length-streamed nr w (509 * n)) p (streamed-twice nr w (509 * n) p) is
+module _ (c : CounterMode) (n : ℕ) (p : List ℕ) where
+  pub twice : length p ≡ 509 → counter_layer c n (counter_layer c n p) ≡ p
+  twice is =
+      let nr = c.schedule.rounds in
+      let w = c.schedule.words in
+      on_payload-undone (layer nr w n) (layer nr w n) p is (length-streamed nr w (509 * n) p ∙ is) (streamed-twice nr w (509 * n) p)
 
-pub length-counter_layer : (c : CounterMode) (n : ℕ) (p : List ℕ) → length (counter_layer c n p) ≡ length p
-length-counter_layer c n p =
-    let nr = c.schedule.rounds in
-    let w = used c.schedule in
-    length-on_payload (layer nr w n) (length-streamed nr w (509 * n)) p
+  pub length-counter_layer : length (counter_layer c n p) ≡ length p
+  length-counter_layer =
+      let nr = c.schedule.rounds in
+      let w = c.schedule.words in
+      length-on_payload (layer nr w n) (λ q is. length-streamed nr w (509 * n) q ∙ is) p

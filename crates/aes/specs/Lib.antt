@@ -1,7 +1,9 @@
+pub mod Schedule
 pub mod Cipher
 pub mod KeyExpansion
 pub mod KeyStream
 pub mod Payload
+pub mod PayloadLaws
 pub mod CounterMode
 pub mod Points
 pub mod Layers

@@ -1,6 +1,6 @@
 -- The bytes of the key stream: by place, a block written, a part, and a list with the stream exclusive-ored in.
 -- Assumes nothing.
-use Rattle.std.specs.Prelude.{◌≡◌, ℕ, zero, suc, ◌+◌, ◌-◌, ◌*◌, ◌/◌, ◌%◌, ◌<◌, ◌≤◌, List, [], ◌∷◌, ◌++◌, map, length, take, drop, bit_xor, slice_index, slice_set, refl}
+use Rattle.std.specs.Prelude.{◌≡◌, ℕ, zero, suc, ◌+◌, ◌-◌, ◌*◌, ◌/◌, ◌%◌, ◌<◌, ◌≤◌, List, [], ◌∷◌, ◌++◌, map, length, take, drop, bit_xor, slice_index, refl}
 use Rattle.std.proofs.Common.{ap, ◌∙◌, sym, ⊎_elim, le_of_suc-le-suc, not-suc-le-zero, arith, rules}
 use borrow.Rule.Slice.PartMut.{put_mid}
 use Rattle.std.proofs.Math.Seq.{paste}
@@ -86,20 +86,6 @@ filled_more nr w first j d b fits is e before k lt =
     within d b (16 * j) 16 fits is k h (omega arith) ∙ ap (λ (v : List ℕ). slice_index v (k - 16 * j)) e
     ∙ ap (λ (v : ℕ). slice_index (stream_block nr w (first + j)) v) i ∙ in_block nr w (first + j) (16 * first + k) (omega arith) (omega arith))
     (cases_lt k (16 * j))
-
--- the loop that exclusive-ors s into p
-pub xor-at : (p s : List ℕ) (i : ℕ) → i < length p → length p ≤ length s → slice_index (xors (take i p) s ++ drop i p) i ≡ slice_index p i
-xor-at [] s i lt le = absurd (not-suc-le-zero lt)
-xor-at (x ∷ p) [] i lt le = absurd (not-suc-le-zero le)
-xor-at (x ∷ p) (y ∷ s) zero lt le = refl
-xor-at (x ∷ p) (y ∷ s) (suc i) lt le = xor-at p s i (le_of_suc-le-suc lt) (le_of_suc-le-suc le)
-
-pub xor-more : (p s : List ℕ) (i : ℕ) → i < length p → length p ≤ length s
-    → slice_set (xors (take i p) s ++ drop i p) i (bit_xor (slice_index p i) (slice_index s i)) ≡ xors (take (suc i) p) s ++ drop (suc i) p
-xor-more [] s i lt le = absurd (not-suc-le-zero lt)
-xor-more (x ∷ p) [] i lt le = absurd (not-suc-le-zero le)
-xor-more (x ∷ p) (y ∷ s) zero lt le = refl
-xor-more (x ∷ p) (y ∷ s) (suc i) lt le = ap (λ (v : List ℕ). bit_xor x y ∷ v) (xor-more p s i (le_of_suc-le-suc lt) (le_of_suc-le-suc le))
 
 -- a list with the stream exclusive-ored in, cut after n bytes
 xors-cut : (f : ℕ → ℕ) (n at : ℕ) (p : List ℕ) → n ≤ length p

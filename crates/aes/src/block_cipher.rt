@@ -3,7 +3,7 @@ ghost use Rattle.std.specs.Prelude.{◌≡◌, ◌+◌, ◌-◌, ◌/◌, ◌%�
 ghost use Rattle.std.proofs.Math.Seq.{paste};
 ghost use Rattle.aes_tables.specs.Field.{S};
 ghost use Rattle.aes_tables.specs.Words.{bytes, mix_column, xors};
-ghost use Rattle.aes.specs.Cipher.{add_round_key, block, cipher, last_round, round_column, round_key, rounds, used};
+ghost use Rattle.aes.specs.Cipher.{add_round_key, block, cipher, last_round, round_column, round_key, rounds};
 
 use super::key_expansion::word_at;
 use super::{Columns, KeySchedule};
@@ -14,10 +14,10 @@ fn round_column(a: u32, b: u32, c: u32, d: u32, k: u32) -> u32
     ensures { bytes result ≡ xors (mix_column (S (a / 16777216 % 256)) (S (b / 65536 % 256)) (S (c / 256 % 256)) (S (d % 256))) (bytes k) }
 {
     mixed_column(
-        (a / 16777216 % 256) as u8,
-        (b / 65536 % 256) as u8,
-        (c / 256 % 256) as u8,
-        (d % 256) as u8,
+        a.to_be_bytes()[0],
+        b.to_be_bytes()[1],
+        c.to_be_bytes()[2],
+        d.to_be_bytes()[3],
     ) ^ k
 }
 
@@ -39,14 +39,14 @@ fn last_column(a: u32, b: u32, c: u32, d: u32, k: u32) -> u32
     ensures { bytes result ≡ xors (S (a / 16777216 % 256) ∷ S (b / 65536 % 256) ∷ S (c / 256 % 256) ∷ S (d % 256) ∷ []) (bytes k) }
 {
     u32::from_be_bytes([
-        sub_byte((a / 16777216 % 256) as u8),
-        sub_byte((b / 65536 % 256) as u8),
-        sub_byte((c / 256 % 256) as u8),
-        sub_byte((d % 256) as u8),
+        sub_byte(a.to_be_bytes()[0]),
+        sub_byte(b.to_be_bytes()[1]),
+        sub_byte(c.to_be_bytes()[2]),
+        sub_byte(d.to_be_bytes()[3]),
     ]) ^ k
 }
 
-// The last round has no MixColumns.
+// The last round has no MixColumns. (Apart from `whole_round`: that one promises each column by itself, this one the block.)
 fn final_round(s: Columns, k: Columns) -> Columns
     ensures { block result ≡ last_round (block s) (block k) }
 {
@@ -108,29 +108,26 @@ fn bytes_of(s: Columns) -> [u8; 16]
 impl KeySchedule {
     fn round_key(&self, i: usize) -> Columns
         requires { i ≤ self.now.rounds }
-        ensures { block result ≡ round_key (used self.now) i }
+        ensures { block result ≡ round_key self.now.words i }
     {
-        Columns {
-            c0: self.words[4 * i],
-            c1: self.words[4 * i + 1],
-            c2: self.words[4 * i + 2],
-            c3: self.words[4 * i + 3],
-        }
+        let [c0, c1, c2, c3] = self.words.as_chunks::<4>().0[i];
+        Columns { c0, c1, c2, c3 }
     }
 
     // Rounds 1 to Nr - 1.
     fn whole_rounds(&self, s: Columns) -> Columns
-        ensures { block result ≡ rounds (self.now.rounds - 1) (used self.now) (block s) }
+        ensures { block result ≡ rounds (self.now.rounds - 1) self.now.words (block s) }
     {
+        // A loop and no `fold`: its closure would need at each round what `round_key` requires, and the fold's goals stay open.
         let mut s = s;
-        for i in 0..self.rounds - 1 {
-            s = whole_round(s, self.round_key(i + 1));
+        for i in 1..self.rounds {
+            s = whole_round(s, self.round_key(i));
         }
         s
     }
 
     pub(crate) fn encipher_columns(&self, s: Columns) -> Columns
-        ensures { block result ≡ cipher self.now.rounds (used self.now) (block s) }
+        ensures { block result ≡ cipher self.now.rounds self.now.words (block s) }
     {
         let whitened = add_round_key(s, self.round_key(0));
         final_round(self.whole_rounds(whitened), self.round_key(self.rounds))
@@ -138,7 +135,7 @@ impl KeySchedule {
 
     /// One block, enciphered.
     pub fn encipher(&self, plain: &[u8; 16]) -> [u8; 16]
-        ensures { result ≡ cipher self.now.rounds (used self.now) plain.now }
+        ensures { result ≡ cipher self.now.rounds self.now.words plain.now }
     {
         bytes_of(self.encipher_columns(read_block(plain)))
     }

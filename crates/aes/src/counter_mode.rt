@@ -4,25 +4,17 @@ ghost use Rattle.aes.specs.CounterMode.{counter_layer, layered};
 ghost use Rattle.aes.specs.Payload.{on_payload};
 ghost use Rattle.aes.specs.CounterModeCipherLemmas.{twice, length-counter_layer};
 
+use super::key::AesKey;
 use super::{CounterMode, KeySchedule};
 use crypto::cipher::Cipher;
 
 impl CounterMode {
-    /// Counter mode under AES-128.
-    pub fn new_128(key: &[u8; 16]) -> CounterMode
-        ensures { (n : ℕ) (p : List ℕ) → counter_layer result n p ≡ on_payload (layered 4 key.now n) p }
+    /// Counter mode under the key: AES-128 or AES-256, by its size.
+    pub fn new<K: AesKey>(key: &K) -> CounterMode
+        ensures { (n : ℕ) (p : List ℕ) → counter_layer result n p ≡ on_payload (layered K.NK (K.key_bytes key.now) n) p }
     {
         CounterMode {
-            schedule: KeySchedule::aes128(key),
-        }
-    }
-
-    /// Counter mode under AES-256.
-    pub fn new_256(key: &[u8; 32]) -> CounterMode
-        ensures { (n : ℕ) (p : List ℕ) → counter_layer result n p ≡ on_payload (layered 8 key.now n) p }
-    {
-        CounterMode {
-            schedule: KeySchedule::aes256(key),
+            schedule: KeySchedule::new(key),
         }
     }
 }

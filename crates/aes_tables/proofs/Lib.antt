@@ -1,4 +1,5 @@
 mod Table
 mod Tables
+mod Xoring
 pub mod Words
 pub mod Inverse

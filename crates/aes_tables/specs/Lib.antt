@@ -1,3 +1,4 @@
 pub mod Field
 pub mod Words
 pub mod Tables
+pub mod Xors

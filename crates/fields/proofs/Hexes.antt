@@ -1,39 +1,52 @@
 -- Reading hexadecimal pair by pair.
-use Rattle.std.proofs.Common.{◌≡◌, ℕ, ◌+◌, ◌*◌, ◌<◌, List, [], ◌∷◌, ◌++◌, length, get_or, drop, Some, None, Option, sym, refl, ap, ◌∙◌, append_assoc, add-one, arith, drop-cons}
-use Rattle.std.proofs.lemmas.List.{drop_all}
+use Rattle.std.proofs.Common.{◌≡◌, ℕ, zero, suc, ◌+◌, ◌*◌, ◌<◌, List, [], ◌∷◌, ◌++◌, length, get_or, drop, Some, None, Option, sym, refl, ap, ◌∙◌, append_assoc, arith}
+use Rattle.std.proofs.lemmas.List.{drop_more}
+use Rattle.std.specs.Simd.{first_chunks}
 use Rattle.fields.specs.Hex.{digit_value, decoded, pair_value, behind}
 
-cut : (t : List ℕ) (i : ℕ) → i < length t → drop i t ≡ get_or t i 0 ∷ drop (i + 1) t
-cut t i lt = rw (add-one, drop-cons t i 0)
+-- the bytes of pairs of digits
+abbrev pub of_pairs : List (List ℕ) → Option (List ℕ)
+of_pairs [] = Some []
+of_pairs (p ∷ ps) = pair_value (digit_value (get_or p 0 0)) (digit_value (get_or p 1 0)) (of_pairs ps)
+
+-- a text of pairs stands for their bytes
+pub decoded_pairs : (n : ℕ) (t : List ℕ) → length t ≡ 2 * n → decoded t ≡ of_pairs (first_chunks 2 n t)
+decoded_pairs zero [] e = refl
+decoded_pairs zero (x ∷ t) e = absurd (omega arith)
+decoded_pairs (suc n) [] e = absurd (omega arith)
+decoded_pairs (suc n) (x ∷ []) e = absurd (omega arith)
+decoded_pairs (suc n) (x ∷ y ∷ t) e = ap (pair_value (digit_value x) (digit_value y)) (decoded_pairs n t (omega arith))
+
+no_pair : (high low : Option ℕ) → pair_value high low None ≡ None
+no_pair None low = refl
+no_pair (Some h) None = refl
+no_pair (Some h) (Some l) = refl
+
+-- one digit is left over
+pub decoded_odd : (n : ℕ) (t : List ℕ) → length t ≡ 2 * n + 1 → decoded t ≡ None
+decoded_odd n [] e = absurd (omega arith)
+decoded_odd n (x ∷ []) e = refl
+decoded_odd zero (x ∷ y ∷ t) e = absurd (omega arith)
+decoded_odd (suc n) (x ∷ y ∷ t) e =
+    ap (pair_value (digit_value x) (digit_value y)) (decoded_odd n t (omega arith)) ∙ no_pair (digit_value x) (digit_value y)
 
 behind_more : (xs ys : List ℕ) (o : Option (List ℕ)) → behind xs (behind ys o) ≡ behind (xs ++ ys) o
 behind_more xs ys None = refl
 behind_more xs ys (Some zs) = ap Some (sym (append_assoc xs ys zs))
 
--- two more digits
-module _ (t : List ℕ) (i : ℕ) (lt : i + 1 < length t) where
-  pub pair : decoded (drop i t) ≡ pair_value (digit_value (get_or t i 0)) (digit_value (get_or t (i + 1) 0)) (decoded (drop (i + 2) t))
-  pair = ap decoded (cut t i (omega arith) ∙ ap (λ r. get_or t i 0 ∷ r) (cut t (i + 1) (omega arith) ∙ ap (λ (n : ℕ). get_or t (i + 1) 0 ∷ drop n t) (omega arith)))
+-- the bytes of the pairs before i, then those of the rest
+module _ (ps : List (List ℕ)) (i : ℕ) (bs : List ℕ) (lt : i < length ps) (so_far : of_pairs ps ≡ behind bs (of_pairs (drop i ps))) where
+  abbrev high : Option ℕ
+  high = digit_value (get_or (get_or ps i []) 0 0)
 
-  -- what the bytes before and the rest make of it
-  module _ (bs : List ℕ) (e : decoded t ≡ behind bs (decoded (drop i t))) where
-    pub no-high : None ≡ digit_value (get_or t i 0) → decoded t ≡ None
-    no-high d = e ∙ ap (behind bs) (pair ∙ ap (λ (h : Option ℕ). pair_value h (digit_value (get_or t (i + 1) 0)) (decoded (drop (i + 2) t))) (sym d))
+  abbrev low : Option ℕ
+  low = digit_value (get_or (get_or ps i []) 1 0)
 
-    values : (h : ℕ) (o : Option ℕ) → Some h ≡ digit_value (get_or t i 0) → o ≡ digit_value (get_or t (i + 1) 0) → decoded t ≡ behind bs (pair_value (Some h) o (decoded (drop (i + 2) t)))
-    values h o d f =
-        e
-        ∙ ap (behind bs)
-        (pair
-        ∙ (ap (λ (v : Option ℕ). pair_value v (digit_value (get_or t (i + 1) 0)) (decoded (drop (i + 2) t))) (sym d)
-        ∙ ap (λ (v : Option ℕ). pair_value (Some h) v (decoded (drop (i + 2) t))) (sym f)))
+  next : of_pairs ps ≡ behind bs (pair_value high low (of_pairs (drop (i + 1) ps)))
+  next = so_far ∙ ap (λ r. behind bs (of_pairs r)) (drop_more ps i [] lt)
 
-    pub no-low : (h : ℕ) → Some h ≡ digit_value (get_or t i 0) → None ≡ digit_value (get_or t (i + 1) 0) → decoded t ≡ None
-    no-low h d f = values h None d f
+  pub no_byte : ((rest : Option (List ℕ)) → pair_value high low rest ≡ None) → of_pairs ps ≡ None
+  no_byte none = next ∙ ap (behind bs) (none (of_pairs (drop (i + 1) ps)))
 
-    pub one_byte : (h l : ℕ) → Some h ≡ digit_value (get_or t i 0) → Some l ≡ digit_value (get_or t (i + 1) 0) → decoded t ≡ behind (bs ++ ((16 * h + l) ∷ [])) (decoded (drop (i + 2) t))
-    one_byte h l d f = values h (Some l) d f ∙ behind_more bs ((16 * h + l) ∷ []) (decoded (drop (i + 2) t))
-
--- one digit is left over
-pub odd : (t : List ℕ) (i : ℕ) → i + 1 ≡ length t → decoded (drop i t) ≡ None
-odd t i e = ap decoded (cut t i (omega arith) ∙ ap (λ r. get_or t i 0 ∷ r) (drop_all (i + 1) t (omega arith)))
+  pub one_byte : (b : ℕ) → ((rest : Option (List ℕ)) → pair_value high low rest ≡ behind (b ∷ []) rest) → of_pairs ps ≡ behind (bs ++ (b ∷ [])) (of_pairs (drop (i + 1) ps))
+  one_byte b byte = next ∙ ap (behind bs) (byte (of_pairs (drop (i + 1) ps))) ∙ behind_more bs (b ∷ []) (of_pairs (drop (i + 1) ps))

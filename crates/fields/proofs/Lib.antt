@@ -1,2 +1,1 @@
-pub mod Decimals
 pub mod Hexes

@@ -4,3 +4,5 @@
 pub mod decimal;
 pub mod field;
 pub mod hex;
+#[cfg(test)]
+mod tests;

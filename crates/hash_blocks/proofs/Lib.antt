@@ -1,2 +1,3 @@
 pub mod Feed
 pub mod Taking
+pub mod Chunks

@@ -16,15 +16,18 @@ pub trait BlockFunction<const W: usize>: Sized {
         ensures { view self.new ≡ after (view self.old) block.now };
 
     /// A second state, equal to this one: a tag is computed on it, and this one stands.
+    /// By a method of its own and not by `Clone`, since a secret is neither `Clone` nor `Copy`.
     fn another(&self) -> Self
         ensures { view result ≡ view self.now };
 }
 
 /// A state and the `fill` bytes of its unfinished block; what `block` holds past them is stale.
+/// An array with its count beside it, since a digest takes no heap.
 #[derive(Drop)]
 pub struct Buffer<S, const W: usize> {
     pub state: S,
     pub block: [u8; W],
     pub fill: usize,
-    ghost ok: { (fill < W) × (length block ≡ W) },
+    ghost unfinished: { fill < W },
+    ghost size: { length block ≡ W },
 }

@@ -1,42 +1,26 @@
 //! Bytes go into the unfinished block, and whole blocks straight into the state.
-ghost use Rattle.std.specs.Prelude.{◌≡◌, ◌+◌, ◌<◌, ◌≤◌, ◌++◌, length, take, drop};
-ghost use Rattle.hash_blocks.specs.Blocks.{blocks, feed, IncrementalLaw};
+ghost use Rattle.std.specs.Prelude.{◌≡◌, ◌+◌, ◌≤◌, ◌++◌, fold, length, take};
+ghost use Rattle.hash_blocks.specs.Blocks.{feed, IncrementalLaw};
 ghost use Rattle.hash_blocks.specs.Buffers.{running};
 
 use crate::buffer::{BlockFunction, Buffer};
 
 /// Writes the part into the block, from `fill` on.
 fn put<const W: usize>(block: &mut [u8; W], fill: usize, part: &[u8])
-    requires part_bound { fill + length part.now ≤ W }
-    requires block_len { length block.old ≡ W }
+    requires { fill + length part.now ≤ W }
     ensures size { length block.new ≡ W }
     ensures front { take (fill + length part.now) block.new ≡ take fill block.old ++ part.now }
 {
-    for k in 0..part.len() {
-        block[fill + k] = part[k];
-    }
+    let block = &mut block[..];
+    block[fill..fill + part.len()].copy_from_slice(part);
 }
 
-/// The block of the bytes that begins at `at`.
-fn block_at<const W: usize>(bytes: &[u8], at: usize) -> &[u8; W]
-    requires { at + W ≤ length bytes.now }
-    ensures { result.now ≡ take W (drop at bytes.now) }
+/// Takes the blocks into the state, one after the other.
+fn absorb_all<S: BlockFunction<W>, const W: usize>(state: &mut S, blocks: &[[u8; W]])
+    ensures { S.BlockFunction.view state.new ≡ fold S.BlockFunction.after (S.BlockFunction.view state.old) blocks.now }
 {
-    match <&[u8; W]>::try_from(&bytes[at..at + W]) {
-        Ok(block) => block,
-        Err(_) => unreachable(),
-    }
-}
-
-/// Takes every whole block of the bytes into the state.
-fn absorb_blocks<S: BlockFunction<W>, const W: usize>(state: &mut S, bytes: &[u8])
-    requires { 0 < W }
-    ensures { S.BlockFunction.view state.new ≡ blocks W S.BlockFunction.after (S.BlockFunction.view state.old) bytes.now }
-{
-    let mut at = 0;
-    while W <= bytes.len() - at {
-        state.absorb(block_at(bytes, at));
-        at += W;
+    for block in blocks {
+        state.absorb(block);
     }
 }
 
@@ -53,15 +37,14 @@ impl<S: BlockFunction<W>, const W: usize> Buffer<S, W> {
         } else {
             put(&mut self.block, self.fill, &bytes[..room]);
             self.state.absorb(&self.block);
-            let later = &bytes[room..];
-            absorb_blocks(&mut self.state, later);
-            let rest = later.len() % W;
-            put(&mut self.block, 0, &later[later.len() - rest..]);
-            self.fill = rest;
+            let (blocks, rest) = bytes[room..].as_chunks::<W>();
+            absorb_all(&mut self.state, blocks);
+            put(&mut self.block, 0, rest);
+            self.fill = rest.len();
         }
     }
 
-    /// A second buffer with the same state and unfinished block.
+    /// A second buffer with the same state and unfinished block; no `Clone`, since a secret has none.
     pub fn another(&self) -> Buffer<S, W>
         ensures { running S.BlockFunction.view result ≡ running S.BlockFunction.view self.now }
     {

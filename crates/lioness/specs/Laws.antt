@@ -1,9 +1,7 @@
 -- The four steps and the four in reverse undo each other.
 -- Assumes nothing.
-use Rattle.std.specs.Prelude.{◌≡◌, ℕ, Bool, cond, List, length, ◌==◌}
-use Rattle.std.proofs.Common.{ap, ◌∙◌, sym, ⊎_elim}
-use Rattle.std.proofs.lemmas.Bool.{cases_eq, ne_eqb}
-use Rattle.aes.specs.Payload.{on_payload}
+use Rattle.std.specs.Prelude.{◌≡◌, ℕ, List, length}
+use Rattle.aes.specs.PayloadLaws.{length-on_payload, on_payload-undone}
 use Rattle.lioness.specs.Steps.{right_step, left_step}
 use Rattle.lioness.specs.Lioness.{four_add, four_remove}
 use Rattle.lioness.specs.Rules.{added_by, removed_by}
@@ -49,35 +47,20 @@ module _ (k1 k2 k3 k4 p : List ℕ) (is : length p ≡ 509) where
       let d = left_step-twice k4 p is in
       cc
 
--- a rule for payloads
-module _ (f : List ℕ → List ℕ) where
-  pub on_payload-is : (p : List ℕ) → length p ≡ 509 → on_payload f p ≡ f p
-  on_payload-is p is = ap (λ (n : ℕ). cond (n == 509) (f p) p) is
-
-  pub length-on_payload : ((p : List ℕ) → length p ≡ 509 → length (f p) ≡ 509) → (p : List ℕ) → length (on_payload f p) ≡ length p
-  length-on_payload keeps p =
-      ⊎_elim (λ e. ap length (on_payload-is p e) ∙ keeps p e ∙ sym e)
-      (λ no. ap (λ (b : Bool). length (cond b (f p) p)) (ne_eqb (length p) 509 no))
-      (cases_eq (length p) 509)
-
--- two rules for payloads, the second undoing the first
-pub on_payload-undone : (f g : List ℕ → List ℕ) (p : List ℕ) → length p ≡ 509 → length (f p) ≡ 509 → g (f p) ≡ p → on_payload g (on_payload f p) ≡ p
-on_payload-undone f g p is long back = ap (on_payload g) (on_payload-is f p is) ∙ on_payload-is g (f p) long ∙ back
-
 -- what a Lioness does
 module _ (c : Lioness) (p : List ℕ) where
   pub length-added_by : length (added_by c p) ≡ length p
-  length-added_by = length-on_payload (four_add c.k1 c.k2 c.k3 c.k4) (length-four_add c.k1 c.k2 c.k3 c.k4) p
+  length-added_by = length-on_payload (four_add c.first.right_key c.first.left_key c.second.right_key c.second.left_key) (length-four_add c.first.right_key c.first.left_key c.second.right_key c.second.left_key) p
 
   pub length-removed_by : length (removed_by c p) ≡ length p
-  length-removed_by = length-on_payload (four_remove c.k1 c.k2 c.k3 c.k4) (length-four_remove c.k1 c.k2 c.k3 c.k4) p
+  length-removed_by = length-on_payload (four_remove c.first.right_key c.first.left_key c.second.right_key c.second.left_key) (length-four_remove c.first.right_key c.first.left_key c.second.right_key c.second.left_key) p
 
   pub removed_by-added_by : length p ≡ 509 → removed_by c (added_by c p) ≡ p
   removed_by-added_by is =
-      on_payload-undone (four_add c.k1 c.k2 c.k3 c.k4) (four_remove c.k1 c.k2 c.k3 c.k4) p is
-      (length-four_add c.k1 c.k2 c.k3 c.k4 p is) (remove-add c.k1 c.k2 c.k3 c.k4 p is)
+      on_payload-undone (four_add c.first.right_key c.first.left_key c.second.right_key c.second.left_key) (four_remove c.first.right_key c.first.left_key c.second.right_key c.second.left_key) p is
+      (length-four_add c.first.right_key c.first.left_key c.second.right_key c.second.left_key p is) (remove-add c.first.right_key c.first.left_key c.second.right_key c.second.left_key p is)
 
   pub added_by-removed_by : length p ≡ 509 → added_by c (removed_by c p) ≡ p
   added_by-removed_by is =
-      on_payload-undone (four_remove c.k1 c.k2 c.k3 c.k4) (four_add c.k1 c.k2 c.k3 c.k4) p is
-      (length-four_remove c.k1 c.k2 c.k3 c.k4 p is) (add-remove c.k1 c.k2 c.k3 c.k4 p is)
+      on_payload-undone (four_remove c.first.right_key c.first.left_key c.second.right_key c.second.left_key) (four_add c.first.right_key c.first.left_key c.second.right_key c.second.left_key) p is
+      (length-four_remove c.first.right_key c.first.left_key c.second.right_key c.second.left_key p is) (add-remove c.first.right_key c.first.left_key c.second.right_key c.second.left_key p is)

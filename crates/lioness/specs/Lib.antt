@@ -3,5 +3,3 @@ pub mod Lioness
 pub mod Rules
 pub mod Laws
 pub mod Undoing
-pub mod Streams
-pub mod Xors

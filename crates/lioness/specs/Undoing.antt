@@ -4,11 +4,11 @@ use Rattle.std.specs.Prelude.{◌≡◌, ℕ, List, ◌++◌, length, refl}
 use Rattle.std.proofs.Common.{◌∙◌, arith}
 use Rattle.std.proofs.lemmas.List.{take-append-drop, take_at, drop_at, length-append, length-take, length-drop}
 use Rattle.aes_tables.specs.Words.{xors}
+use Rattle.aes_tables.specs.Xors.{length-xors, xors-twice}
 use Rattle.aes.specs.KeyExpansion.{expanded}
+use Rattle.aes.specs.Layers.{length-stream_bytes}
 use Rattle.sha3.specs.Sha3.{sha3}
 use Rattle.lioness.specs.Steps.{left, right, stream, hash, right_step, left_step}
-use Rattle.lioness.specs.Streams.{length-stream_bytes}
-use Rattle.lioness.specs.Xors.{length-xors, xors-twice}
 
 length-stream : (k : List ℕ) → length (stream k) ≡ 477
 unfolding stream

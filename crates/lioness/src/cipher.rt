@@ -6,8 +6,8 @@ ghost use Rattle.lioness.specs.Steps.{left_step, right_step};
 ghost use Rattle.lioness.specs.Rules.{added_by, removed_by};
 ghost use Rattle.lioness.specs.Laws.{removed_by-added_by, added_by-removed_by, length-added_by, length-removed_by};
 
-use super::Lioness;
 use super::steps::{change_left, change_right, part_at};
+use super::{Lioness, Round};
 use crypto::cipher::Cipher;
 
 impl Lioness {
@@ -17,30 +17,33 @@ impl Lioness {
         ensures removed { (p : List ℕ) → removed_by result p ≡ on_payload (lioness_remove key.now) p }
     {
         Lioness {
-            k1: part_at(key, 0),
-            k2: part_at(key, 32),
-            k3: part_at(key, 64),
-            k4: part_at(key, 96),
+            first: Round {
+                right_key: part_at(key, 0),
+                left_key: part_at(key, 32),
+            },
+            second: Round {
+                right_key: part_at(key, 64),
+                left_key: part_at(key, 96),
+            },
         }
     }
 }
 
-// A step on R, and a step on L.
-fn add_round(right_key: &[u8; 32], left_key: &[u8; 32], payload: &mut [u8])
-    requires { length payload.old ≡ 509 }
-    ensures { payload.new ≡ left_step left_key.now (right_step right_key.now payload.old) }
-{
-    change_right(right_key, payload);
-    change_left(left_key, payload);
-}
+impl Round {
+    fn add(&self, payload: &mut [u8; 509])
+        ensures { payload.new ≡ left_step self.now.left_key (right_step self.now.right_key payload.old) }
+    {
+        change_right(&self.right_key, payload);
+        change_left(&self.left_key, payload);
+    }
 
-// The same two in reverse: each undoes itself.
-fn remove_round(right_key: &[u8; 32], left_key: &[u8; 32], payload: &mut [u8])
-    requires { length payload.old ≡ 509 }
-    ensures { payload.new ≡ right_step right_key.now (left_step left_key.now payload.old) }
-{
-    change_left(left_key, payload);
-    change_right(right_key, payload);
+    // The same two in reverse: each undoes itself.
+    fn remove(&self, payload: &mut [u8; 509])
+        ensures { payload.new ≡ right_step self.now.right_key (left_step self.now.left_key payload.old) }
+    {
+        change_left(&self.left_key, payload);
+        change_right(&self.right_key, payload);
+    }
 }
 
 impl Cipher for Lioness {
@@ -57,16 +60,16 @@ impl Cipher for Lioness {
     ghost removed_length = { λ c n p. length-removed_by c p };
 
     fn add(&self, _n: u32, payload: &mut [u8]) {
-        if payload.len() == 509 {
-            add_round(&self.k1, &self.k2, payload);
-            add_round(&self.k3, &self.k4, payload);
+        if let Some(payload) = payload.as_mut_array::<509>() {
+            self.first.add(payload);
+            self.second.add(payload);
         }
     }
 
     fn remove(&self, _n: u32, payload: &mut [u8]) {
-        if payload.len() == 509 {
-            remove_round(&self.k3, &self.k4, payload);
-            remove_round(&self.k1, &self.k2, payload);
+        if let Some(payload) = payload.as_mut_array::<509>() {
+            self.second.remove(payload);
+            self.first.remove(payload);
         }
     }
 }

@@ -5,11 +5,16 @@
 pub mod cipher;
 pub mod steps;
 
+// A step on R and a step on L, each under its key.
+#[derive(Drop)]
+struct Round {
+    right_key: [u8; 32],
+    left_key: [u8; 32],
+}
+
 /// A cipher for payloads under four keys of 32 bytes. Every layer number has the same rule.
 #[derive(Drop)]
 pub struct Lioness {
-    k1: [u8; 32],
-    k2: [u8; 32],
-    k3: [u8; 32],
-    k4: [u8; 32],
+    first: Round,
+    second: Round,
 }

@@ -6,31 +6,19 @@ ghost use Rattle.aes.specs.KeyStream.{streamed};
 ghost use Rattle.lioness.specs.Steps.{left, left_step, right_step};
 
 use aes::KeySchedule;
+use aes_tables::xor_into;
 use sha3::digest::sha3_256_of_two;
-
-// Exclusive-ors s into p, as long as p lasts.
-fn xor_into(p: &mut [u8], s: &[u8])
-    requires { length p.old ≤ length s.now }
-    ensures { p.new ≡ xors p.old s.now }
-{
-    for i in 0..p.len() {
-        p[i] ^= s[i];
-    }
-}
 
 /// The 32 bytes from place `at` on.
 pub(crate) fn part_at(bytes: &[u8], at: usize) -> [u8; 32]
     requires { at + 32 ≤ length bytes.now }
     ensures { result ≡ take 32 (drop at bytes.now) }
 {
-    let mut part = [0u8; 32];
-    part.copy_from_slice(&bytes[at..at + 32]);
-    part
+    <[u8; 32]>::try_from(&bytes[at..at + 32]).unwrap()
 }
 
 // L exclusive-or the key.
-fn stream_key(key: &[u8; 32], payload: &[u8]) -> [u8; 32]
-    requires { length payload.now ≡ 509 }
+fn stream_key(key: &[u8; 32], payload: &[u8; 509]) -> [u8; 32]
     ensures { result ≡ xors (left payload.now) key.now }
 {
     let mut left = part_at(payload, 0);
@@ -42,12 +30,11 @@ fn stream_key(key: &[u8; 32], payload: &[u8]) -> [u8; 32]
 fn xor_stream_under(key: &[u8; 32], bytes: &mut [u8])
     ensures { bytes.new ≡ streamed 14 (expanded 8 key.now) 0 bytes.old }
 {
-    KeySchedule::aes256(key).xor_stream(0, bytes);
+    KeySchedule::new(key).xor_stream(0, bytes);
 }
 
 /// R becomes R exclusive-or the key stream under L exclusive-or the key.
-pub(crate) fn change_right(key: &[u8; 32], payload: &mut [u8])
-    requires { length payload.old ≡ 509 }
+pub(crate) fn change_right(key: &[u8; 32], payload: &mut [u8; 509])
     ensures { payload.new ≡ right_step key.now payload.old }
 {
     let key = stream_key(key, payload);
@@ -55,8 +42,7 @@ pub(crate) fn change_right(key: &[u8; 32], payload: &mut [u8])
 }
 
 /// L becomes L exclusive-or the hash of the key and R.
-pub(crate) fn change_left(key: &[u8; 32], payload: &mut [u8])
-    requires { length payload.old ≡ 509 }
+pub(crate) fn change_left(key: &[u8; 32], payload: &mut [u8; 509])
     ensures { payload.new ≡ left_step key.now payload.old }
 {
     let hash = sha3_256_of_two(key, &payload[32..509]);

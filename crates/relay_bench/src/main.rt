@@ -3,14 +3,14 @@
 #![tactic(auto)]
 
 use anyhow::anyhow;
-use cell::PayloadReader;
+use cell::{PayloadReader, clear_tag};
 use crypto::cipher::Cipher;
 use crypto::digest::Digest;
 use fields::decimal::decimal;
 use fields::hex::Hex;
 use std::alloc::Global;
-use std::env;
 use std::time::Instant;
+use std::{array, env};
 use suites::keys::WayKeys;
 use suites::slip::Slip;
 
@@ -21,38 +21,27 @@ fn main(rt: HostRuntime) -> anyhow::Result<()> {
 }
 
 fn count(rt: &HostRuntime) -> anyhow::Result<u32> {
-    match env::args(rt)?.nth(1) {
-        Some(word) => match decimal(word.as_bytes(), 100_000_000) {
-            Some(n) => Ok(n),
-            None => Err(anyhow!(USAGE)),
-        },
-        None => Err(anyhow!(USAGE)),
-    }
+    env::args(rt)?
+        .nth(1)
+        .and_then(|word| decimal(word.as_bytes(), 100_000_000))
+        .ok_or(anyhow!(USAGE))
 }
 
 // Made-up key material: byte i is 11 i + 5.
+// (`map_err` and not `context`: the runtime prints an error with all that it holds.)
 fn keys(heap: Global, suite: u16, length: u32) -> anyhow::Result<WayKeys> {
-    let mut bytes = Vec::new(heap);
-    for i in 0..length {
-        if bytes
-            .push((i.wrapping_mul(11).wrapping_add(5) % 256) as u8)
-            .is_err()
-        {
-            return Err(anyhow!("out of memory"));
-        }
-    }
-    match Slip::new(suite, bytes).open(1) {
-        Ok(keys) => Ok(keys.forward),
-        Err(_) => Err(anyhow!("the slip does not open")),
-    }
+    let bytes = (0..length)
+        .map(|i| (i.wrapping_mul(11).wrapping_add(5) % 256) as u8)
+        .collect(heap)
+        .map_err(|_| anyhow!("out of memory"))?;
+    let keys = Slip::new(suite, bytes)
+        .open(1)
+        .map_err(|_| anyhow!("the slip does not open"))?;
+    Ok(keys.forward)
 }
 
 fn start() -> [u8; 509] {
-    let mut payload = [0u8; 509];
-    for i in 0..509usize {
-        payload[i] = ((i * 7 + 3) % 256) as u8;
-    }
-    payload
+    array::from_fn(|i| (i.wrapping_mul(7).wrapping_add(3) % 256) as u8)
 }
 
 fn passing<C: Cipher>(rt: &HostRuntime, suite: u16, cipher: &C, count: u32) -> anyhow::Result<()> {
@@ -68,16 +57,15 @@ fn passing<C: Cipher>(rt: &HostRuntime, suite: u16, cipher: &C, count: u32) -> a
     Ok(())
 }
 
-// The tag's own bytes, which are no part of what is hashed.
+// The payload with its tag zero, as it is hashed. (As `hops` has it for itself, on which this program does not stand.)
 fn unsealed(payload: &[u8; 509]) -> [u8; 509] {
     let mut copy = *payload;
-    copy[5] = 0;
-    copy[6] = 0;
-    copy[7] = 0;
-    copy[8] = 0;
+    clear_tag(&mut copy).unwrap();
     copy
 }
 
+// A loop of its own beside that of `passing`: a delivered cell hands the moved digest on to the next one. Its matches are counted in
+// the same pass.
 fn delivered<C: Cipher, D: Digest + Drop>(
     rt: &HostRuntime,
     suite: u16,
@@ -93,10 +81,10 @@ fn delivered<C: Cipher, D: Digest + Drop>(
         cipher.remove(n, &mut payload);
         let trial = digest.trial(&unsealed(&payload));
         tag = u32::from_be_bytes(trial.tag);
-        if let Ok(reader) = PayloadReader::new(&payload) {
-            if u32::from_be_bytes(reader.tag()) == tag {
-                matches = matches.saturating_add(1);
-            }
+        if let Ok(reader) = PayloadReader::new(&payload)
+            && u32::from_be_bytes(reader.tag()) == tag
+        {
+            matches = matches.saturating_add(1);
         }
         digest = trial.taken;
     }
@@ -114,8 +102,8 @@ fn run(rt: &HostRuntime) -> anyhow::Result<()> {
     let heap = rt.alloc();
     for (suite, length) in [(1u16, 72u32), (2, 128), (3, 320)] {
         passing(rt, suite, &keys(heap, suite, length)?.cipher, count)?;
-        let way = keys(heap, suite, length)?;
-        delivered(rt, suite, &way.cipher, way.digest, count)?;
+        let WayKeys { cipher, digest } = keys(heap, suite, length)?;
+        delivered(rt, suite, &cipher, digest, count)?;
     }
     Ok(())
 }

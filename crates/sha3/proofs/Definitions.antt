@@ -1,19 +1,25 @@
 -- The laws of the definitions.
-use Rattle.std.proofs.Common.{◌≡◌, ℕ, ◌+◌, ◌-◌, ◌*◌, ◌/◌, ◌%◌, ◌<◌, Bool, eqb, List, ◌∷◌, ◌++◌, length, get_or, replicate, sym, refl, ap, ◌∙◌, zero-add, arith, eqb→eq}
-use Rattle.std.proofs.lemmas.List.FromFn.{get_or-map-range_with_len}
+use Rattle.std.proofs.Common.{◌≡◌, ℕ, ◌+◌, ◌-◌, ◌*◌, ◌/◌, ◌%◌, ◌<◌, Bool, true, eqb, List, ◌∷◌, ◌++◌, length, get_or, replicate, sym, refl, ap, ◌∙◌, zero-add, arith, subst}
+use Rattle.std.proofs.lemmas.List.FromFn.{get_or-map-range_with_len, get_or-range_with_len}
 use Rattle.std.proofs.lemmas.List.{length-append, length-replicate, length-set}
 use Rattle.sha3.specs.Keccak.{theta, offsets, rho, pi, chi, constants, lane, place}
 use Rattle.sha3.specs.Laws.{offset_table, constant_table, Abc, Sha3Laws}
 use Rattle.sha3.specs.Sha3.{padding, xor_block, sha3}
-use Rattle.sha3.proofs.Table.{at}
+use Rattle.std.specs.List.{range_with_len}
+use Rattle.std.proofs.lemmas.List.Sums.{AllPass-from_list_all}
+use Rattle.std.proofs.lemmas.List.Elements.{All-get_or}
+use Rattle.std.proofs.lemmas.Bool.Decides.{Decides-eqb}
 
 -- at each of the 25 places, by one computed test
-goes : ℕ → ℕ → Bool
-goes i v = eqb (place (i / 5 + 3 * ((2 * (i % 5) + 3 * (i / 5)) % 5)) (i / 5)) i
+goes : ℕ → Bool
+goes i = eqb (place (i / 5 + 3 * ((2 * (i % 5) + 3 * (i / 5)) % 5)) (i / 5)) i
 
 every-place : (i : ℕ) → i < 25 → place (i / 5 + 3 * ((2 * (i % 5) + 3 * (i / 5)) % 5)) (i / 5) ≡ i
 unfolding goes
-every-place i h = eqb→eq _ _ (at goes (replicate 25 0) tt i (rw length-replicate h))
+every-place i h =
+    let here : goes (get_or (range_with_len 0 25) i 0) ≡ true
+    = All-get_or (λ x. goes x ≡ true) (range_with_len 0 25) i 0 h (AllPass-from_list_all goes (range_with_len 0 25) refl) in
+    (Decides-eqb _ _).0 (subst (λ (x : ℕ). goes x ≡ true) (get_or-range_with_len 0 25 i 0 h ∙ zero-add i) here)
 
 back : (x y : ℕ) → x < 5 → y < 5 → place (y + 3 * ((2 * x + 3 * y) % 5)) y ≡ place x y
 back x y hx hy =

@@ -1,4 +1,3 @@
 pub mod Flat
 pub mod Ends
-pub mod Table
 pub mod Definitions

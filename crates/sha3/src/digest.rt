@@ -2,7 +2,7 @@
 ghost use Rattle.std.specs.Prelude.{◌≡◌, ℕ, List, ◌++◌, take};
 ghost use Rattle.std.proofs.Math.Path.{refl};
 ghost use Rattle.hash_blocks.specs.Taking.{took_all, joined};
-ghost use Rattle.sha3.specs.Digests.{Sha3State, state_of, empty, takes, finish, first_four, tags};
+ghost use Rattle.sha3.specs.Digests.{Sha3State, empty, takes, finish, first_four, tags};
 ghost use Rattle.sha3.specs.Laws.{Sha3Laws};
 ghost use Rattle.sha3.specs.Planes.{flat};
 ghost use Rattle.sha3.specs.Sha3.{squeezed, sha3};
@@ -17,7 +17,7 @@ use hash_blocks::buffer::{BlockFunction, Buffer};
 impl Sha3 {
     /// A digest that took nothing.
     fn empty() -> Sha3
-        ensures { state_of result ≡ empty }
+        ensures { result ≡ empty }
     {
         let zero = plane(0, 0, 0, 0, 0);
         let lanes = Lanes {
@@ -38,17 +38,26 @@ impl Sha3 {
     /// A digest that took the seed. Whatever payloads it then takes, the next payload's tag is
     /// the first four bytes of the hash over the seed, those payloads and this one.
     pub fn seeded(seed: &[u8]) -> Sha3
-        ensures state { state_of result ≡ takes empty seed.now }
-        ensures tags { (ps : List (List ℕ)) (p : List ℕ) → tags (took_all takes (state_of result) ps) p ≡ take 4 (sha3 (seed.now ++ (joined ps ++ p))) }
+        ensures state { result ≡ takes empty seed.now }
+        ensures tags { (ps : List (List ℕ)) (p : List ℕ) → tags (took_all takes result ps) p ≡ take 4 (sha3 (seed.now ++ (joined ps ++ p))) }
     {
         let mut digest = Sha3::empty();
         digest.take(seed);
         digest
     }
 
+    /// A second digest in the same state; no `Clone`, since a secret has none.
+    fn another(&self) -> Sha3
+        ensures { result ≡ self.now }
+    {
+        Sha3 {
+            buffer: self.buffer.another(),
+        }
+    }
+
     /// The lanes over all that was taken.
     fn finished(&self) -> Lanes
-        ensures { flat result ≡ finish (state_of self.now) }
+        ensures { flat result ≡ finish self.now }
     {
         let mut end = self.buffer.another();
         pad(&mut end);
@@ -56,18 +65,20 @@ impl Sha3 {
     }
 
     /// The first four bytes of the hash over all that was taken.
+    #[tactic(auto, unfolding(crate::specs::Digests::first_four))]
     fn first_four(&self) -> [u8; 4]
-        ensures { result ≡ first_four (state_of self.now) }
+        ensures { result ≡ first_four self.now }
     {
         let [b0, b1, b2, b3, _, _, _, _] = self.finished().y0.x0.to_le_bytes();
         [b0, b1, b2, b3]
     }
 }
 
+// As at SHA-1, which says why the lines are not shared.
 impl Digest for Sha3 {
     ghost State = { Sha3State };
 
-    ghost state = { λ d. state_of d };
+    ghost state = { λ d. d };
 
     ghost takes = { λ s p. takes s p };
 
@@ -84,9 +95,7 @@ impl Digest for Sha3 {
     }
 
     fn trial(&self, payload: &[u8]) -> Trial<Sha3> {
-        let mut taken = Sha3 {
-            buffer: self.buffer.another(),
-        };
+        let mut taken = self.another();
         taken.take(payload);
         let tag = taken.first_four();
         Trial { tag, taken }
@@ -97,14 +106,12 @@ impl Digest for Sha3 {
 fn squeeze(a: Lanes) -> [u8; 32]
     ensures { result ≡ squeezed (flat a) }
 {
-    let [a0, a1, a2, a3, a4, a5, a6, a7] = a.y0.x0.to_le_bytes();
-    let [b0, b1, b2, b3, b4, b5, b6, b7] = a.y0.x1.to_le_bytes();
-    let [c0, c1, c2, c3, c4, c5, c6, c7] = a.y0.x2.to_le_bytes();
-    let [d0, d1, d2, d3, d4, d5, d6, d7] = a.y0.x3.to_le_bytes();
-    [
-        a0, a1, a2, a3, a4, a5, a6, a7, b0, b1, b2, b3, b4, b5, b6, b7, c0, c1, c2, c3, c4, c5, c6,
-        c7, d0, d1, d2, d3, d4, d5, d6, d7,
-    ]
+    let mut bytes = [0u8; 32];
+    bytes[0..8].copy_from_slice(&a.y0.x0.to_le_bytes());
+    bytes[8..16].copy_from_slice(&a.y0.x1.to_le_bytes());
+    bytes[16..24].copy_from_slice(&a.y0.x2.to_le_bytes());
+    bytes[24..32].copy_from_slice(&a.y0.x3.to_le_bytes());
+    bytes
 }
 
 /// The hash of a whole message; it carries the laws of the definitions.
@@ -112,12 +119,12 @@ pub fn sha3_256(message: &[u8]) -> [u8; 32]
     ensures value { result ≡ sha3 message.now }
     ensures laws { Sha3Laws }
 {
-    squeeze(Sha3::seeded(message).finished())
+    sha3_256_of_two(message, &[])
 }
 
 /// Takes two parts, the second after the first.
 fn take_both(digest: &mut Sha3, first: &[u8], second: &[u8])
-    ensures { state_of digest.new ≡ takes (takes (state_of digest.old) first.now) second.now }
+    ensures { digest.new ≡ takes (takes digest.old first.now) second.now }
 {
     digest.take(first);
     digest.take(second);

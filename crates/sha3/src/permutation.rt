@@ -1,7 +1,6 @@
 //! Keccak-p[1600, 24]: a round is unrolled plane by plane, so that lanes stay in registers.
-ghost use Rattle.std.specs.Prelude.{◌≡◌, ◌<◌, slice_index};
+ghost use Rattle.std.specs.Prelude.{◌≡◌};
 ghost use Rattle.sha3.specs.Keccak.{theta, rho, pi, chi, round, keccak};
-ghost use Rattle.sha3.specs.Laws.{constant_table};
 ghost use Rattle.sha3.specs.Planes.{flat, plane_of, xor_plane, theta_plane, chi_plane, rot_plane};
 
 use crate::planes::{Lanes, Plane};
@@ -33,13 +32,6 @@ const RC: [u64; 24] = [
     0x0000000080000001,
     0x8000000080008008,
 ];
-
-fn round_constant(i: usize) -> u64
-    requires { i < 24 }
-    ensures { result ≡ slice_index constant_table i }
-{
-    RC[i]
-}
 
 pub(crate) fn plane(x0: u64, x1: u64, x2: u64, x3: u64, x4: u64) -> Plane
     ensures { result ≡ plane_of x0 x1 x2 x3 x4 }
@@ -153,8 +145,8 @@ pub(crate) fn permuted(a: Lanes) -> Lanes
     ensures { flat result ≡ keccak (flat a) }
 {
     let mut b = a;
-    for i in 0..24 {
-        b = round_of(b, round_constant(i));
+    for c in RC {
+        b = round_of(b, c);
     }
     b
 }

@@ -1,4 +1,4 @@
-//! The 25 lanes of a state, plane by plane.
+//! The 25 lanes of a state, plane by plane: fields and no arrays, so that each step is proved by computing.
 
 /// The lanes (0, y) to (4, y).
 #[derive(Clone, Copy)]

@@ -14,20 +14,8 @@ fn lane_at(block: &[u8; 136], i: usize) -> u64
     requires { i < 25 }
     ensures { result ≡ block_lane block.now i }
 {
-    if i >= 17 {
-        return 0;
-    }
-    let at = 8 * i;
-    u64::from_le_bytes([
-        block[at],
-        block[at + 1],
-        block[at + 2],
-        block[at + 3],
-        block[at + 4],
-        block[at + 5],
-        block[at + 6],
-        block[at + 7],
-    ])
+    let (lanes, _) = block.as_chunks::<8>();
+    lanes.get(i).map_or(0, |lane| u64::from_le_bytes(*lane))
 }
 
 fn plane_at(block: &[u8; 136], y: usize) -> Plane

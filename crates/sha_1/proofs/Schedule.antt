@@ -5,7 +5,7 @@ use Rattle.std.proofs.lemmas.List.{get_or_append_left, get_or_push, length_push,
 use Rattle.std.proofs.lemmas.List.FromFn.{length-map-range_with_len, get_or-map-range_with_len}
 use Rattle.std.proofs.lemmas.Bool.{cases_eq}
 use Rattle.sha_1.specs.Sha1.{extended, schedule, next_word, mixed, M, steps}
-use Rattle.sha_1.specs.Quads.{quad_at, sixteen_at, next_quad, moved_on, four_steps}
+use Rattle.sha_1.specs.Quads.{quad_at, sixteen_at, next_quad, moved_on, four_steps, twenty_steps}
 use Rattle.sha_1.specs.declared.words.Quad.{Quad}
 use Rattle.sha_1.specs.declared.words.Sixteen.{Sixteen}
 use Rattle.sha_1.specs.declared.words.Working.{Working}
@@ -123,13 +123,27 @@ drop-quad ws t le =
     let zero : drop t ws ≡ get_or ws t 0 ∷ drop (t + 1) ws = drop_more ws t 0 (omega arith) in
     cc
 
-pub steps-four : (g : ℕ → ℕ → ℕ → ℕ) (k : ℕ) (ws : List ℕ) (t : ℕ) (q : Quad) (v v' z : Working) → t + 4 ≤ length ws → Four g k t → q ≡ quad_at ws t → v' ≡ four_steps g k q v
-    → steps t (drop t ws) v ≡ z → steps (t + 4) (drop (t + 4) ws) v' ≡ z
-steps-four g k ws t q v v' z le four eq ev h =
-    ap (steps (t + 4) (drop (t + 4) ws)) (ev ∙ ap (λ (x : Quad). four_steps g k x v) eq)
+steps-four : (g : ℕ → ℕ → ℕ → ℕ) (k : ℕ) (ws : List ℕ) (t u : ℕ) (q : Quad) (v z : Working) → t + 4 ≤ length ws → t + 4 ≡ u → Four g k t → q ≡ quad_at ws t
+    → steps t (drop t ws) v ≡ z → steps u (drop u ws) (four_steps g k q v) ≡ z
+steps-four g k ws t u q v z le eu four eq h =
+    subst (λ (n : ℕ). steps n (drop n ws) (four_steps g k q v) ≡ z) eu
+    (ap (λ (x : Quad). steps (t + 4) (drop (t + 4) ws) (four_steps g k x v)) eq
     ∙ sym (four (quad_at ws t) (drop (t + 4) ws) v)
     ∙ ap (λ (xs : List ℕ). steps t xs v) (sym (drop-quad ws t le))
-    ∙ h
+    ∙ h)
+
+-- twenty steps with one function and one constant
+pub steps-twenty : (g : ℕ → ℕ → ℕ → ℕ) (k : ℕ) (ws : List ℕ) (t : ℕ) (a b c d e : Quad) (v v' z : Working) → t + 20 ≤ length ws
+    → Four g k t → Four g k (t + 4) → Four g k (t + 8) → Four g k (t + 12) → Four g k (t + 16)
+    → a ≡ quad_at ws t → b ≡ quad_at ws (t + 4) → c ≡ quad_at ws (t + 8) → d ≡ quad_at ws (t + 12) → e ≡ quad_at ws (t + 16)
+    → v' ≡ twenty_steps g k a b c d e v
+    → steps t (drop t ws) v ≡ z → steps (t + 20) (drop (t + 20) ws) v' ≡ z
+steps-twenty g k ws t a b c d e v v' z le f0 f4 f8 f12 f16 ea eb ec ed ee ev h =
+    let at4 = steps-four g k ws t (t + 4) a v z (omega arith) refl f0 ea h in
+    let at8 = steps-four g k ws (t + 4) (t + 8) b _ z (omega arith) (omega arith) f4 eb at4 in
+    let at12 = steps-four g k ws (t + 8) (t + 12) c _ z (omega arith) (omega arith) f8 ec at8 in
+    let at16 = steps-four g k ws (t + 12) (t + 16) d _ z (omega arith) (omega arith) f12 ed at12 in
+    ap (steps (t + 20) (drop (t + 20) ws)) ev ∙ steps-four g k ws (t + 16) (t + 20) e _ z (omega arith) (omega arith) f16 ee at16
 
 pub steps_all : (ws : List ℕ) (t : ℕ) (v z : Working) → length ws ≤ t → steps t (drop t ws) v ≡ z → v ≡ z
 steps_all ws t v z le h = ap (λ (xs : List ℕ). steps t xs v) (sym (drop_all t ws le)) ∙ h

@@ -27,3 +27,6 @@ moved_on x = record { p = x.q; q = x.r; r = x.s; s = next_quad x }
 
 abbrev pub four_steps : (ℕ → ℕ → ℕ → ℕ) → ℕ → Quad → Working → Working
 four_steps g k q v = step_by g k q.w3 (step_by g k q.w2 (step_by g k q.w1 (step_by g k q.w0 v)))
+
+abbrev pub twenty_steps : (ℕ → ℕ → ℕ → ℕ) → ℕ → Quad → Quad → Quad → Quad → Quad → Working → Working
+twenty_steps g k a b c d e v = four_steps g k e (four_steps g k d (four_steps g k c (four_steps g k b (four_steps g k a v))))

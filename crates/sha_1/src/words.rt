@@ -1,4 +1,4 @@
-//! The words that SHA-1 works on.
+//! The words that SHA-1 works on. Fields and no arrays: by a rolled loop over arrays a block takes twice the time.
 
 /// The hash value, H0 to H4.
 #[derive(Drop)]

@@ -5,7 +5,7 @@ use Rattle.suites.specs.declared.faults.SlipError.{SlipError}
 use Rattle.suites.specs.declared.faults.SlipError.TheVariants.{Suite, Length}
 use Rattle.suites.specs.declared.faults.SlipFault.{SlipFault}
 
-abbrev error_number : SlipError → ℕ
+abbrev pub error_number : SlipError → ℕ
 error_number Suite = 18
 error_number Length = 18
 

@@ -4,4 +4,3 @@ pub mod Faults
 pub mod Suites
 pub mod Opened
 pub mod Points
-pub mod Counter

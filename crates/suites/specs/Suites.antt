@@ -1,6 +1,7 @@
 -- The suites by number, and the parts of their slips: Df, Db, Kf and Kb, joined.
 -- Assumes nothing.
-use Rattle.std.specs.Prelude.{ℕ, ◌+◌, ◌*◌, cond, List, take, drop, Some, None, Option, ◌==◌}
+use Rattle.std.specs.Prelude.{◌≡◌, MatchResult, Result, ℕ, ◌+◌, ◌*◌, cond, List, take, drop, Some, None, Option, ◌==◌}
+use Rattle.suites.specs.declared.faults.SlipError.{SlipError}
 use Rattle.suites.specs.declared.faults.SlipError.TheVariants.{Suite as NoSuite, Length}
 use Rattle.suites.specs.declared.faults.SlipFault.{SlipFault}
 use Rattle.suites.specs.declared.slip.Suite.{Suite}
@@ -8,6 +9,10 @@ use Rattle.suites.specs.declared.slip.Suite.TheVariants.{Aes128Sha1, Aes256Sha3,
 
 abbrev pub suite_of : ℕ → Option Suite
 suite_of n = cond (n == 1) (Some Aes128Sha1) (cond (n == 2) (Some Aes256Sha3) (cond (n == 3) (Some LionessSha3) None))
+
+-- the result is the suite with this number, or the refusal of a number that no suite has
+abbrev pub NumberedBy : ℕ → Result Suite SlipError → Type 0
+NumberedBy n r = MatchResult r (λ s. suite_of n ≡ Some s) (λ e. (suite_of n ≡ None) × (e ≡ NoSuite))
 
 -- the bytes of a digest seed
 abbrev pub seed_length : Suite → ℕ

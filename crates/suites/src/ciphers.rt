@@ -2,7 +2,7 @@
 ghost use Rattle.suites.specs.Ciphers.{cipher_added, cipher_removed};
 ghost use Rattle.lioness.specs.Laws.{removed_by-added_by, added_by-removed_by, length-added_by, length-removed_by};
 ghost use Rattle.suites.specs.declared.keys.SuiteCipher.TheVariants.{Counter, Lioness};
-ghost use Rattle.suites.specs.Counter.{counter_layer-twice, length-counter_layer};
+ghost use Rattle.aes.specs.CounterModeCipherLemmas.{twice, length-counter_layer};
 
 use crate::keys::SuiteCipher;
 use crypto::cipher::Cipher;
@@ -13,12 +13,12 @@ impl Cipher for SuiteCipher {
     ghost removed = { λ c n p. cipher_removed c n p };
 
     ghost remove_undoes_add = { elim [
-      | Counter c ↦ λ n p is. counter_layer-twice c n p is
+      | Counter c ↦ λ n p is. twice c n p is
       | Lioness c ↦ λ n p is. removed_by-added_by c p is
     ] };
 
     ghost add_undoes_remove = { elim [
-      | Counter c ↦ λ n p is. counter_layer-twice c n p is
+      | Counter c ↦ λ n p is. twice c n p is
       | Lioness c ↦ λ n p is. added_by-removed_by c p is
     ] };
 

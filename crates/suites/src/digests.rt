@@ -7,22 +7,17 @@ ghost use Rattle.sha3.specs.Digests as three;
 
 use crate::keys::SuiteDigest;
 use crypto::digest::{Digest, Trial};
-use sha_1::running::Sha1;
-use std::mem::replace;
 
-// The digest once it took the payload.
-fn after(digest: SuiteDigest, payload: &[u8]) -> SuiteDigest
-    ensures { digest_state result ≡ digest_takes (digest_state digest) payload.now }
+// The trial of a suite's digest, from that of the digest inside.
+fn wrapped<D, F: FnOnce(D) -> SuiteDigest>(trial: Trial<D>, wrap: F) -> Trial<SuiteDigest>
+    requires { F.pre wrap trial.taken }
+    ensures tag { result.tag ≡ trial.tag }
+    ensures taken { F.post wrap trial.taken result.taken }
 {
-    match digest {
-        SuiteDigest::Sha1(mut inner) => {
-            inner.take(payload);
-            SuiteDigest::Sha1(inner)
-        }
-        SuiteDigest::Sha3(mut inner) => {
-            inner.take(payload);
-            SuiteDigest::Sha3(inner)
-        }
+    let Trial { tag, taken } = trial;
+    Trial {
+        tag,
+        taken: wrap(taken),
     }
 }
 
@@ -38,8 +33,10 @@ impl Digest for SuiteDigest {
     ghost tag_length = { unfold one.first_four three.first_four in elim [ in_sha1 s ↦ λ p. refl | in_sha3 s ↦ λ p. refl ] };
 
     fn take(&mut self, payload: &[u8]) {
-        let before = replace(self, SuiteDigest::Sha1(Sha1::seeded(&[])));
-        *self = after(before, payload);
+        match self {
+            SuiteDigest::Sha1(digest) => digest.take(payload),
+            SuiteDigest::Sha3(digest) => digest.take(payload),
+        }
     }
 
     fn tag(&self, payload: &[u8]) -> [u8; 4] {
@@ -51,16 +48,8 @@ impl Digest for SuiteDigest {
 
     fn trial(&self, payload: &[u8]) -> Trial<SuiteDigest> {
         match self {
-            SuiteDigest::Sha1(digest) => {
-                let Trial { tag, taken } = digest.trial(payload);
-                let taken = SuiteDigest::Sha1(taken);
-                Trial { tag, taken }
-            }
-            SuiteDigest::Sha3(digest) => {
-                let Trial { tag, taken } = digest.trial(payload);
-                let taken = SuiteDigest::Sha3(taken);
-                Trial { tag, taken }
-            }
+            SuiteDigest::Sha1(digest) => wrapped(digest.trial(payload), SuiteDigest::Sha1),
+            SuiteDigest::Sha3(digest) => wrapped(digest.trial(payload), SuiteDigest::Sha3),
         }
     }
 }

@@ -5,7 +5,6 @@ pub mod ciphers;
 pub mod digests;
 pub mod faults;
 pub mod keys;
-pub mod numbers;
 pub mod opening;
 pub mod slip;
 #[cfg(test)]

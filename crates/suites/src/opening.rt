@@ -1,7 +1,7 @@
 //! A slip opened: the keys of both ways, or the first thing wrong with it.
 ghost use Rattle.std.specs.Prelude.{◌≡◌, ◌+◌, ◌*◌, length, IfOk, Some, None, MatchResult};
 ghost use Rattle.suites.specs.Opened.{CipherOf, DigestOf, Opened};
-ghost use Rattle.suites.specs.Suites.{backward_key, backward_seed, forward_key, forward_seed, key_length, seed_length, slip_fault, slip_length, suite_of};
+ghost use Rattle.suites.specs.Suites.{key_length, seed_length, slip_fault, NumberedBy};
 
 use crate::faults::{SlipError, SlipFault};
 use crate::keys::{HopKeys, SuiteCipher, SuiteDigest, WayKeys};
@@ -11,93 +11,74 @@ use lioness::Lioness;
 use sha_1::running::Sha1;
 use sha3::running::Sha3;
 
-fn suite_of(number: u16) -> Option<Suite>
-    ensures { result ≡ suite_of number }
-{
-    match number {
-        1 => Some(Suite::Aes128Sha1),
-        2 => Some(Suite::Aes256Sha3),
-        3 => Some(Suite::LionessSha3),
-        _ => None,
-    }
-}
+impl TryFrom<u16> for Suite {
+    type Error = SlipError;
 
-fn seed_length(suite: Suite) -> usize
-    ensures { result ≡ seed_length suite }
-{
-    match suite {
-        Suite::Aes128Sha1 => 20,
-        Suite::Aes256Sha3 => 32,
-        Suite::LionessSha3 => 32,
-    }
-}
+    ghost try_from_gives = { NumberedBy };
 
-fn key_length(suite: Suite) -> usize
-    ensures { result ≡ key_length suite }
-{
-    match suite {
-        Suite::Aes128Sha1 => 16,
-        Suite::Aes256Sha3 => 32,
-        Suite::LionessSha3 => 128,
-    }
-}
-
-fn cipher_of(suite: Suite, key: &[u8]) -> SuiteCipher
-    requires { length key.now ≡ key_length suite }
-    ensures { CipherOf suite key.now result }
-{
-    match suite {
-        Suite::Aes128Sha1 => {
-            let mut key_128 = [0u8; 16];
-            key_128.copy_from_slice(key);
-            SuiteCipher::Counter(CounterMode::new_128(&key_128))
-        }
-        Suite::Aes256Sha3 => {
-            let mut key_256 = [0u8; 32];
-            key_256.copy_from_slice(key);
-            SuiteCipher::Counter(CounterMode::new_256(&key_256))
-        }
-        Suite::LionessSha3 => {
-            let mut four_keys = [0u8; 128];
-            four_keys.copy_from_slice(key);
-            SuiteCipher::Lioness(Lioness::new(&four_keys))
+    fn try_from(number: u16) -> Result<Suite, SlipError> {
+        match number {
+            1 => Ok(Suite::Aes128Sha1),
+            2 => Ok(Suite::Aes256Sha3),
+            3 => Ok(Suite::LionessSha3),
+            _ => Err(SlipError::Suite),
         }
     }
 }
 
-fn digest_of(suite: Suite, seed: &[u8]) -> SuiteDigest
-    ensures { DigestOf suite seed.now result }
-{
-    match suite {
-        Suite::Aes128Sha1 => SuiteDigest::Sha1(Sha1::seeded(seed)),
-        Suite::Aes256Sha3 => SuiteDigest::Sha3(Sha3::seeded(seed)),
-        Suite::LionessSha3 => SuiteDigest::Sha3(Sha3::seeded(seed)),
+impl Suite {
+    fn seed_length(self) -> usize
+        ensures { result ≡ seed_length self }
+    {
+        match self {
+            Suite::Aes128Sha1 => 20,
+            Suite::Aes256Sha3 | Suite::LionessSha3 => 32,
+        }
     }
-}
 
-fn forward_keys(suite: Suite, bytes: &[u8]) -> WayKeys
-    requires { length bytes.now ≡ slip_length suite }
-    ensures cipher { CipherOf suite (forward_key suite bytes.now) result.cipher }
-    ensures digest { DigestOf suite (forward_seed suite bytes.now) result.digest }
-{
-    let seed = seed_length(suite);
-    let key = key_length(suite);
-    WayKeys {
-        cipher: cipher_of(suite, &bytes[2 * seed..2 * seed + key]),
-        digest: digest_of(suite, &bytes[0..seed]),
+    fn key_length(self) -> usize
+        ensures { result ≡ key_length self }
+    {
+        match self {
+            Suite::Aes128Sha1 => 16,
+            Suite::Aes256Sha3 => 32,
+            Suite::LionessSha3 => 128,
+        }
     }
-}
 
-fn backward_keys(suite: Suite, bytes: &[u8]) -> WayKeys
-    requires { length bytes.now ≡ slip_length suite }
-    ensures cipher { CipherOf suite (backward_key suite bytes.now) result.cipher }
-    ensures digest { DigestOf suite (backward_seed suite bytes.now) result.digest }
-{
-    let seed = seed_length(suite);
-    let key = key_length(suite);
-    WayKeys {
-        cipher: cipher_of(suite, &bytes[2 * seed + key..2 * seed + 2 * key]),
-        digest: digest_of(suite, &bytes[seed..2 * seed]),
+    fn cipher(self, key: &[u8]) -> SuiteCipher
+        requires { length key.now ≡ key_length self }
+        ensures { CipherOf self key.now result }
+    {
+        match self {
+            Suite::Aes128Sha1 => {
+                SuiteCipher::Counter(CounterMode::new(key.as_array::<16>().unwrap()))
+            }
+            Suite::Aes256Sha3 => {
+                SuiteCipher::Counter(CounterMode::new(key.as_array::<32>().unwrap()))
+            }
+            Suite::LionessSha3 => { SuiteCipher::Lioness(Lioness::new(key.as_array().unwrap())) }
+        }
+    }
+
+    fn digest(self, seed: &[u8]) -> SuiteDigest
+        ensures { DigestOf self seed.now result }
+    {
+        match self {
+            Suite::Aes128Sha1 => SuiteDigest::Sha1(Sha1::seeded(seed)),
+            Suite::Aes256Sha3 | Suite::LionessSha3 => SuiteDigest::Sha3(Sha3::seeded(seed)),
+        }
+    }
+
+    fn way_keys(self, seed: &[u8], key: &[u8]) -> WayKeys
+        requires { length key.now ≡ key_length self }
+        ensures cipher { CipherOf self key.now result.cipher }
+        ensures digest { DigestOf self seed.now result.digest }
+    {
+        WayKeys {
+            cipher: self.cipher(key),
+            digest: self.digest(seed),
+        }
     }
 }
 
@@ -114,21 +95,19 @@ impl Slip {
         ensures refused { MatchResult result (λ _. slip_fault self.suite (length self.bytes.items) place ≡ None) (λ f. slip_fault self.suite (length self.bytes.items) place ≡ Some f) }
         ensures opened { IfOk result (λ keys. Opened self.suite self.bytes.items keys) }
     {
-        let Some(suite) = suite_of(self.suite) else {
-            return Err(SlipFault {
-                at: place,
-                error: SlipError::Suite,
-            });
-        };
-        if self.bytes.len() != 2 * seed_length(suite) + 2 * key_length(suite) {
-            return Err(SlipFault {
-                at: place,
-                error: SlipError::Length,
-            });
+        let suite = Suite::try_from(self.suite).map_err(|error| error.at(place))?;
+        let seed = suite.seed_length();
+        let key = suite.key_length();
+        if self.bytes.len() != 2 * seed + 2 * key {
+            return Err(SlipError::Length.at(place));
         }
+        let bytes = &self.bytes;
         Ok(HopKeys {
-            forward: forward_keys(suite, &self.bytes),
-            backward: backward_keys(suite, &self.bytes),
+            forward: suite.way_keys(&bytes[0..seed], &bytes[2 * seed..2 * seed + key]),
+            backward: suite.way_keys(
+                &bytes[seed..2 * seed],
+                &bytes[2 * seed + key..2 * seed + 2 * key],
+            ),
         })
     }
 }

@@ -10,10 +10,7 @@ use std::test::Fail;
 
 // A slip whose byte i is i modulo 256.
 fn slip(heap: Global, suite: u16, len: usize) -> Result<Slip, Fail> {
-    let mut bytes = Vec::new(heap);
-    for i in 0..len {
-        bytes.push((i % 256) as u8)?;
-    }
+    let bytes = (0..len).map(|i| (i % 256) as u8).collect(heap)?;
     Ok(Slip::new(suite, bytes))
 }
 
@@ -22,10 +19,7 @@ fn payload_with(tag: [u8; 4]) -> [u8; 509] {
     let mut payload = [0u8; 509];
     payload[0] = 1;
     payload[4] = 5;
-    payload[5] = tag[0];
-    payload[6] = tag[1];
-    payload[7] = tag[2];
-    payload[8] = tag[3];
+    payload[5..9].copy_from_slice(&tag);
     payload[10] = 1;
     payload[11] = 0x61;
     payload
@@ -37,16 +31,9 @@ fn covered(rt: &impl Abort, way: &WayKeys, n: u32, tag: [u8; 4]) -> [u8; 8] {
     let plain = payload_with(tag);
     let mut payload = payload_with(tag);
     way.cipher.add(n, &mut payload);
-    let ends = [
-        payload[0],
-        payload[1],
-        payload[2],
-        payload[3],
-        payload[505],
-        payload[506],
-        payload[507],
-        payload[508],
-    ];
+    let mut ends = [0u8; 8];
+    ends[..4].copy_from_slice(&payload[..4]);
+    ends[4..].copy_from_slice(&payload[505..]);
     way.cipher.remove(n, &mut payload);
     assert_eq!(rt; payload, plain);
     ends
@@ -54,15 +41,9 @@ fn covered(rt: &impl Abort, way: &WayKeys, n: u32, tag: [u8; 4]) -> [u8; 8] {
 
 #[test]
 fn opened(rt: HostRuntime) -> Result<(), Fail> {
-    let Ok(one) = slip(rt.alloc(), 1, 72)?.open(1) else {
-        return Err(Fail::new("suite 1"));
-    };
-    let Ok(two) = slip(rt.alloc(), 2, 128)?.open(2) else {
-        return Err(Fail::new("suite 2"));
-    };
-    let Ok(three) = slip(rt.alloc(), 3, 320)?.open(3) else {
-        return Err(Fail::new("suite 3"));
-    };
+    let one = slip(rt.alloc(), 1, 72)?.open(1)?;
+    let two = slip(rt.alloc(), 2, 128)?.open(2)?;
+    let three = slip(rt.alloc(), 3, 320)?.open(3)?;
     let sha1_tag = [0x3a, 0x02, 0xb6, 0x37];
     let sha3_tag = [0x5d, 0x2d, 0xab, 0xf3];
     assert_eq!(rt;
@@ -80,26 +61,43 @@ fn opened(rt: HostRuntime) -> Result<(), Fail> {
     Ok(())
 }
 
-// The number, the place and whether the suite is at fault.
-fn refusal(slip: Slip, place: u16) -> (u8, u16, bool) {
-    match slip.open(place) {
-        Ok(_) => (0, 0, false),
-        Err(fault) => {
-            let SlipFault { at, error } = fault;
-            let suite = match error {
-                SlipError::Suite => true,
-                SlipError::Length => false,
-            };
-            (fault.number(), at, suite)
-        }
-    }
+// The number of the refusal, and the refusal.
+fn refusal(slip: Slip, place: u16) -> Option<(u8, SlipFault)> {
+    let fault = slip.open(place).err()?;
+    Some((fault.number(), fault))
 }
 
 #[test]
 fn refused(rt: HostRuntime) -> Result<(), Fail> {
-    assert_eq!(rt; refusal(slip(rt.alloc(), 4, 72)?, 5), (18, 5, true));
-    assert_eq!(rt; refusal(slip(rt.alloc(), 0, 72)?, 2), (18, 2, true));
-    assert_eq!(rt; refusal(slip(rt.alloc(), 2, 127)?, 7), (18, 7, false));
-    assert_eq!(rt; refusal(slip(rt.alloc(), 3, 128)?, 1), (18, 1, false));
+    let due = |error, at| Some((18, SlipFault { at, error }));
+    assert_eq!(rt;
+        refusal(slip(rt.alloc(), 4, 72)?, 5),
+        due(SlipError::Suite, 5)
+    );
+    assert_eq!(rt;
+        refusal(slip(rt.alloc(), 0, 72)?, 2),
+        due(SlipError::Suite, 2)
+    );
+    assert_eq!(rt;
+        refusal(slip(rt.alloc(), 2, 127)?, 7),
+        due(SlipError::Length, 7)
+    );
+    assert_eq!(rt;
+        refusal(slip(rt.alloc(), 3, 128)?, 1),
+        due(SlipError::Length, 1)
+    );
+    Ok(())
+}
+
+// The error and the fault print alike.
+#[test]
+fn printed(rt: HostRuntime) -> Result<(), Fail> {
+    for (error, text) in [
+        (SlipError::Suite, "suites are 1, 2 and 3 (18)"),
+        (SlipError::Length, "the key has not the suite's length (18)"),
+    ] {
+        assert_eq!(rt; format!(in rt.alloc(); "{error}")?.as_str(), text);
+        assert_eq!(rt; format!(in rt.alloc(); "{}", error.at(9))?.as_str(), text);
+    }
     Ok(())
 }

@@ -1,8 +1,9 @@
 //! Each kind of vector: what is computed, and whether it is what the vector says.
-use crate::reading::{Stop, bytes, end, hex, number, text};
+use crate::reading::{Fields, Stop};
 use aes::{CounterMode, KeySchedule};
 use crypto::cipher::Cipher;
 use crypto::digest::Digest;
+use fields::hex::decode;
 use lioness::Lioness;
 use sha_1::digest::sha1;
 use sha_1::running::Sha1;
@@ -10,51 +11,44 @@ use sha3::digest::sha3_256;
 use sha3::running::Sha3;
 use std::alloc::Global;
 
-/// Whether a line's vector is right.
+/// Whether a line's vector is right. By a match: each kind reads fields of its own.
 pub fn verdict(heap: Global, line: &str) -> Result<bool, Stop> {
     let mut parts = line.split(' ');
-    match parts.next() {
-        Some("aes") => aes(heap, line),
-        Some("ctr") => ctr(heap, line),
-        Some("lioness") => lioness(heap, line),
-        Some("sha1") => whole_sha1(heap, line),
-        Some("sha3") => whole_sha3(heap, line),
-        Some("tag") => tag(heap, line),
+    let kind = parts.next();
+    let fields = Fields { heap, parts };
+    match kind {
+        Some("aes") => aes(fields),
+        Some("ctr") => ctr(fields),
+        Some("lioness") => lioness(fields),
+        Some("sha1") => whole(fields, |message, out| &sha1(message)[..] == out),
+        Some("sha3") => whole(fields, |message, out| &sha3_256(message)[..] == out),
+        Some("tag") => tag(fields),
         _ => Err(Stop::NoVector),
     }
 }
 
-fn schedule(key: &[u8]) -> Result<KeySchedule, Stop> {
+// What a key of 16 or of 32 bytes makes.
+fn keyed<T, F: FnOnce(&[u8; 16]) -> T, G: FnOnce(&[u8; 32]) -> T>(
+    key: &[u8],
+    by_128: F,
+    by_256: G,
+) -> Result<T, Stop>
+    requires by_128 { F.IsAlwaysCallable by_128 }
+    requires by_256 { G.IsAlwaysCallable by_256 }
+{
     if let Ok(key) = <&[u8; 16]>::try_from(key) {
-        return Ok(KeySchedule::aes128(key));
+        return Ok(by_128(key));
     }
-    match <&[u8; 32]>::try_from(key) {
-        Ok(key) => Ok(KeySchedule::aes256(key)),
-        Err(_) => Err(Stop::NoVector),
-    }
+    let key = <&[u8; 32]>::try_from(key)?;
+    Ok(by_256(key))
 }
 
-fn aes(heap: Global, line: &str) -> Result<bool, Stop> {
-    let mut parts = line.split(' ').skip(1);
-    let key = bytes(heap, parts.next(), "key=")?;
-    let plain = bytes(heap, parts.next(), "in=")?;
-    let out = bytes(heap, parts.next(), "out=")?;
-    end(parts.next())?;
-    let Ok(block) = <&[u8; 16]>::try_from(plain.as_slice()) else {
-        return Err(Stop::NoVector);
-    };
-    let found = schedule(key.as_slice())?.encipher(block);
-    Ok(&found[..] == out.as_slice())
-}
-
-fn counter_mode(key: &[u8]) -> Result<CounterMode, Stop> {
-    if let Ok(key) = <&[u8; 16]>::try_from(key) {
-        return Ok(CounterMode::new_128(key));
-    }
-    match <&[u8; 32]>::try_from(key) {
-        Ok(key) => Ok(CounterMode::new_256(key)),
-        Err(_) => Err(Stop::NoVector),
-    }
+fn aes(mut fields: Fields) -> Result<bool, Stop> {
+    let key = fields.bytes("key=")?;
+    let (plain, out) = fields.in_and_out()?;
+    let block = <&[u8; 16]>::try_from(plain.as_slice())?;
+    let schedule = keyed(key.as_slice(), KeySchedule::new, KeySchedule::new)?;
+    Ok(&schedule.encipher(block)[..] == out.as_slice())
 }
 
 // A layer added gives `out`, and removed again gives the payload back.
@@ -71,51 +65,35 @@ fn layer<C: Cipher>(cipher: &C, n: u32, mut payload: Vec<u8>, out: &[u8]) -> Res
     Ok(payload.as_slice() == before.as_slice())
 }
 
-fn ctr(heap: Global, line: &str) -> Result<bool, Stop> {
-    let mut parts = line.split(' ').skip(1);
-    let key = bytes(heap, parts.next(), "key=")?;
-    let n = number(parts.next(), "layer=")?;
-    let payload = bytes(heap, parts.next(), "in=")?;
-    let out = bytes(heap, parts.next(), "out=")?;
-    end(parts.next())?;
-    layer(&counter_mode(key.as_slice())?, n, payload, out.as_slice())
+fn ctr(mut fields: Fields) -> Result<bool, Stop> {
+    let key = fields.bytes("key=")?;
+    let n = fields.number("layer=")?;
+    let (payload, out) = fields.in_and_out()?;
+    let cipher = keyed(key.as_slice(), CounterMode::new, CounterMode::new)?;
+    layer(&cipher, n, payload, out.as_slice())
 }
 
-fn lioness(heap: Global, line: &str) -> Result<bool, Stop> {
-    let mut parts = line.split(' ').skip(1);
-    let key = bytes(heap, parts.next(), "key=")?;
-    let payload = bytes(heap, parts.next(), "in=")?;
-    let out = bytes(heap, parts.next(), "out=")?;
-    end(parts.next())?;
-    match <&[u8; 128]>::try_from(key.as_slice()) {
-        Ok(key) => layer(&Lioness::new(key), 0, payload, out.as_slice()),
-        Err(_) => Err(Stop::NoVector),
-    }
+fn lioness(mut fields: Fields) -> Result<bool, Stop> {
+    let key = fields.bytes("key=")?;
+    let (payload, out) = fields.in_and_out()?;
+    let key = <&[u8; 128]>::try_from(key.as_slice())?;
+    layer(&Lioness::new(key), 0, payload, out.as_slice())
 }
 
-fn whole_sha1(heap: Global, line: &str) -> Result<bool, Stop> {
-    let mut parts = line.split(' ').skip(1);
-    let message = bytes(heap, parts.next(), "in=")?;
-    let out = bytes(heap, parts.next(), "out=")?;
-    end(parts.next())?;
-    Ok(&sha1(message.as_slice())[..] == out.as_slice())
+// The hash of a whole message.
+fn whole<F: FnOnce(&[u8], &[u8]) -> bool>(fields: Fields, hashes_to: F) -> Result<bool, Stop>
+    requires { F.IsAlwaysCallable hashes_to }
+{
+    let (message, out) = fields.in_and_out()?;
+    Ok(hashes_to(message.as_slice(), out.as_slice()))
 }
 
-fn whole_sha3(heap: Global, line: &str) -> Result<bool, Stop> {
-    let mut parts = line.split(' ').skip(1);
-    let message = bytes(heap, parts.next(), "in=")?;
-    let out = bytes(heap, parts.next(), "out=")?;
-    end(parts.next())?;
-    Ok(&sha3_256(message.as_slice())[..] == out.as_slice())
-}
-
-fn tag(heap: Global, line: &str) -> Result<bool, Stop> {
-    let mut parts = line.split(' ').skip(1);
-    let suite = number(parts.next(), "suite=")?;
-    let seed = bytes(heap, parts.next(), "seed=")?;
-    let cells = text(parts.next(), "cells=")?;
-    let out = bytes(heap, parts.next(), "out=")?;
-    end(parts.next())?;
+fn tag(mut fields: Fields) -> Result<bool, Stop> {
+    let heap = fields.heap;
+    let suite = fields.number("suite=")?;
+    let seed = fields.bytes("seed=")?;
+    let cells = fields.text("cells=")?;
+    let out = fields.out()?;
     let found = match suite {
         1 => last_tag(heap, Sha1::seeded(seed.as_slice()), cells)?,
         2 | 3 => last_tag(heap, Sha3::seeded(seed.as_slice()), cells)?,
@@ -124,23 +102,21 @@ fn tag(heap: Global, line: &str) -> Result<bool, Stop> {
     Ok(&found[..] == out.as_slice())
 }
 
+fn payload(heap: Global, digits: &[u8]) -> Result<Vec<u8>, Stop> {
+    let payload = decode(heap, digits)?.ok_or(Stop::NoVector)?;
+    if payload.len() != 509 {
+        return Err(Stop::NoVector);
+    }
+    Ok(payload)
+}
+
 // All payloads but the last are taken; the tag of the last is asked, both alone and as a trial.
 fn last_tag<D: Digest + Drop>(heap: Global, mut digest: D, cells: &[u8]) -> Result<[u8; 4], Stop> {
-    let mut rest = cells;
-    for _ in 0..cells.len() {
-        if rest.len() <= 1018 {
-            break;
-        }
-        let payload = hex(heap, &rest[0..1018])?;
-        if rest[1018] != b',' {
-            return Err(Stop::NoVector);
-        }
-        digest.take(payload.as_slice());
-        rest = &rest[1019..];
-    }
-    let last = hex(heap, rest)?;
-    if last.len() != 509 {
-        return Err(Stop::NoVector);
+    let mut cells = cells.split(|c| *c == b',');
+    let mut last = payload(heap, cells.next().unwrap_or(&[]))?;
+    for cell in cells {
+        digest.take(last.as_slice());
+        last = payload(heap, cell)?;
     }
     let tag = digest.tag(last.as_slice());
     let trial = digest.trial(last.as_slice());

@@ -27,6 +27,7 @@ fn run(rt: &HostRuntime) -> anyhow::Result<()> {
     if text.as_str().is_empty() {
         println!(rt; "{USAGE}")?;
     }
+    // Counted and not zipped with numbers: the last line prints both counts.
     let mut count: u64 = 0;
     let mut wrong: u64 = 0;
     for line in text.as_str().lines() {

@@ -1,10 +1,11 @@
 //! The fields of a vector, in their order.
-use fields::decimal::decimal;
-use fields::field::behind;
-use fields::hex::decode;
+use fields::field::{FieldError, bytes, end, number, text};
 use std::alloc::{AllocError, Global};
+use std::array::TryFromSliceError;
+use std::str::Split;
 
 /// Why a line was not run.
+#[derive(Drop)]
 pub enum Stop {
     NoVector,
     Memory(AllocError),
@@ -16,41 +17,53 @@ impl From<AllocError> for Stop {
     }
 }
 
-/// The text behind `name` in the next part of the line.
-pub fn text<'a>(part: Option<&'a str>, name: &str) -> Result<&'a [u8], Stop> {
-    let Some(part) = part else {
-        return Err(Stop::NoVector);
-    };
-    match behind(part.as_bytes(), name.as_bytes()) {
-        Some(value) => Ok(value),
-        None => Err(Stop::NoVector),
+/// A key, a block or a payload of another length.
+impl From<TryFromSliceError> for Stop {
+    fn from(_e: TryFromSliceError) -> Stop {
+        Stop::NoVector
     }
 }
 
-pub fn hex(heap: Global, text: &[u8]) -> Result<Vec<u8>, Stop> {
-    match decode(heap, text)? {
-        Some(bytes) => Ok(bytes),
-        None => Err(Stop::NoVector),
+impl From<FieldError> for Stop {
+    fn from(e: FieldError) -> Stop {
+        match e {
+            FieldError::Memory(e) => Stop::Memory(e),
+            _ => Stop::NoVector,
+        }
     }
 }
 
-/// The bytes behind `name`.
-pub fn bytes(heap: Global, part: Option<&str>, name: &str) -> Result<Vec<u8>, Stop> {
-    hex(heap, text(part, name)?)
+/// What is left to read of a line.
+#[derive(Drop)]
+pub struct Fields<'a> {
+    pub heap: Global,
+    pub parts: Split<'a, char>,
 }
 
-/// The number behind `name`.
-pub fn number(part: Option<&str>, name: &str) -> Result<u32, Stop> {
-    match decimal(text(part, name)?, u32::MAX) {
-        Some(n) => Ok(n),
-        None => Err(Stop::NoVector),
+impl<'a> Fields<'a> {
+    pub fn text(&mut self, name: &str) -> Result<&'a [u8], Stop> {
+        Ok(text(self.parts.next(), name)?)
     }
-}
 
-/// Nothing may follow the last field.
-pub fn end(part: Option<&str>) -> Result<(), Stop> {
-    match part {
-        Some(_) => Err(Stop::NoVector),
-        None => Ok(()),
+    pub fn bytes(&mut self, name: &str) -> Result<Vec<u8>, Stop> {
+        Ok(bytes(self.heap, self.parts.next(), name)?)
+    }
+
+    pub fn number(&mut self, name: &str) -> Result<u32, Stop> {
+        Ok(number(self.parts.next(), name, u32::MAX)?)
+    }
+
+    /// What is given to the function and what it has to answer, the last two fields.
+    pub fn in_and_out(mut self) -> Result<(Vec<u8>, Vec<u8>), Stop> {
+        let given = self.bytes("in=")?;
+        let out = self.out()?;
+        Ok((given, out))
+    }
+
+    /// What has to come out, the last field.
+    pub fn out(mut self) -> Result<Vec<u8>, Stop> {
+        let out = self.bytes("out=")?;
+        end(self.parts.next())?;
+        Ok(out)
     }
 }

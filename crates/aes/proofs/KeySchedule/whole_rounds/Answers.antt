@@ -1,5 +1,5 @@
-use Rattle.std.proofs.Common.{◌≡◌, ℕ, ◌+◌, List, refl, add-one}
-use Rattle.aes.specs.Cipher.{block, round, round_key, rounds, used}
+use Rattle.std.proofs.Common.{◌≡◌, ℕ, ◌+◌, ◌-◌, List, refl, add-one, arith}
+use Rattle.aes.specs.Cipher.{block, round, round_key, rounds}
 use Rattle.aes.proofs.Blocks.{round-columns}
 use Rattle.aes.proofs.KeySchedule.whole_rounds.Goals as goal
 
@@ -13,7 +13,10 @@ loop-i-init c = refl
 
 pub loop-i-preserved : goal.loop-i-preserved
 loop-i-preserved c =
-    let e = rounds-more c.loop-i.i (used c.args.self.now) (block c.args.s) in
+    let i = c.loop-i.i in
+    let n : i - 1 + 1 ≡ i = omega arith in
+    let m : i + 1 - 1 ≡ i = omega arith in
+    let e = rounds-more (i - 1) c.args.self.now.words (block c.args.s) in
     let r = c.whole_round-s.ensures in
     let f = round-columns c.loop-i.s c.round_key.result c.whole_round-s.result r.column0 r.column1 r.column2 r.column3 in
     cc

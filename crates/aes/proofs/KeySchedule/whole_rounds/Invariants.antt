@@ -1,6 +1,6 @@
-use Rattle.std.proofs.Common.{◌≡◌}
-use Rattle.aes.specs.Cipher.{block, rounds, used}
+use Rattle.std.proofs.Common.{◌≡◌, ◌-◌}
+use Rattle.aes.specs.Cipher.{block, rounds}
 use Rattle.aes.proofs.KeySchedule.whole_rounds.Given as goal
 
 abbrev pub invariant-loop-i : goal.invariant-loop-i
-invariant-loop-i l = block l.s ≡ rounds l.i (used l.self) (block l.initial.s)
+invariant-loop-i l = block l.s ≡ rounds (l.i - 1) l.self.words (block l.initial.s)

@@ -1,10 +1,8 @@
--- The bytes of the pairs before i, then those of the rest.
-use Rattle.std.proofs.Common.{◌≡◌, ◌-◌, ◌≤◌, length, drop, vec_items}
-use Rattle.fields.specs.Hex.{decoded, behind}
+-- The bytes of the pairs read, then those of the rest, are the bytes of all pairs.
+use Rattle.std.proofs.Common.{◌≡◌, drop, vec_items}
+use Rattle.fields.specs.Hex.{behind}
+use Rattle.fields.proofs.Hexes.{of_pairs}
 use Rattle.fields.proofs.hex.decode.Given as goal
 
-abbrev pub invariant-loop-i : goal.invariant-loop-i
-invariant-loop-i l = (l.i ≤ length l.text) × (decoded l.text ≡ behind (vec_items l.bytes) (decoded (drop l.i l.text)))
-
-abbrev pub decreases-loop-i : goal.decreases-loop-i
-decreases-loop-i l = length l.text - l.i
+abbrev pub invariant-loop-high : goal.invariant-loop-high
+invariant-loop-high l = of_pairs l.pairs ≡ behind (vec_items l.bytes) (of_pairs (drop l.high-index l.pairs))

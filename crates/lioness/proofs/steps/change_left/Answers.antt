@@ -1,5 +1,5 @@
 use Rattle.std.proofs.Common.{◌≡◌, length, arith}
-use Rattle.std.proofs.lemmas.List.{take_all, length-drop}
+use Rattle.std.proofs.lemmas.List.{take_all, length-take, length-drop}
 use Rattle.lioness.specs.Steps.{right, left_step, hash}
 use Rattle.lioness.proofs.steps.change_left.Goals as goal
 
@@ -9,4 +9,5 @@ returns c =
     let p = c.args.payload.now in
     let n : length (right p) ≡ 477 = simp length-drop (omega arith) in
     let a = take_all 477 (right p) (omega arith) in
+    let x = c.xor_into.ensures.whole (simp length-take (omega arith)) in
     cc

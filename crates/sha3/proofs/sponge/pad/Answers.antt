@@ -14,4 +14,4 @@ pub returns : goal.returns
 returns c =
     c.feed.ensures.fed
     ∙ ap (feed 136 absorb_block (running view c.args.buffer.now))
-    (end-part c.args.buffer.now.fill (135 - c.args.buffer.now.fill + 1 - 0) (omega (arith, c.args.buffer.now.ok)) (omega arith))
+    (end-part c.args.buffer.now.fill (135 - c.args.buffer.now.fill + 1 - 0) (omega (arith, c.args.buffer.now.unfinished)) (omega arith))
