@@ -1,4 +1,4 @@
--- The laws of a cell's frame.
+-- The laws of a cell's frame. Crates above read these laws too, so not all of them are cited here.
 use Rattle.std.proofs.Common.{◌≡◌, ℕ, ◌+◌, ◌/◌, ◌%◌, ◌<◌, ◌≤◌, List, [], ◌∷◌, length, get_or, refl, arith}
 use Rattle.cell.specs.Frame.{relay_cell, framed, number_of, cell_command_of, payload_of}
 

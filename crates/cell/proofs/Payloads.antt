@@ -1,4 +1,4 @@
--- The laws of a payload: reading undoes writing, writing undoes reading, and a tag changes no other field.
+-- The laws of a payload: reading undoes writing, writing undoes reading, and a tag changes no other field. Crates above read these laws too, so not all of them are cited here.
 use Rattle.std.proofs.Common.{◌≡◌, ℕ, suc, ◌+◌, ◌-◌, ◌*◌, ◌/◌, ◌%◌, ◌<◌, ◌≤◌, List, [], ◌∷◌, ◌++◌, length, get_or, take, drop, replicate, sym, refl, ◌∙◌, arith, length-append}
 use native.Mathlib.Nat.{div-add-mod}
 use lib.ListN.{length-replicate}

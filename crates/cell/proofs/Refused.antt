@@ -12,9 +12,9 @@ data-met p e =
     (λ (fits : leb (length_of p) 498 ≡ true). (eqb-true (length p) 509 whole, leb-true (length_of p) 498 fits))
     (λ (more : leb (length_of p) 498 ≡ false).
     let no = rw (whole, more) at e in
-    absurd (let z : ◌≡◌ {A = ℕ} 0 1 = cc in omega arith))
+    cc)
     (cases_Bool (leb (length_of p) 498)))
     (λ (other : eqb (length p) 509 ≡ false).
     let no = rw other at e in
-    absurd (let z : ◌≡◌ {A = ℕ} 0 1 = cc in omega arith))
+    cc)
     (cases_Bool (eqb (length p) 509))

@@ -1,9 +1,10 @@
 -- The commands of a relay payload, their bytes, and the ways that they go; the numbers of a cell's refusals.
-use Rattle.std.specs.Prelude.{ℕ, Bool, true, false, cond, Some, None, Option, ◌==◌}
+use Rattle.std.specs.Prelude.{◌≡◌, ℕ, Bool, true, false, cond, Some, None, Option, Result, MatchResult, ◌==◌}
 use Rattle.cell.specs.declared.command.Command.{Command}
 use Rattle.cell.specs.declared.command.Command.TheVariants.{Begin, Data, End, Connected, Sendme, Drop}
 use Rattle.cell.specs.declared.command.Way.{Way}
 use Rattle.cell.specs.declared.command.Way.TheVariants.{Forward, Backward}
+use Rattle.cell.specs.declared.numbers.UnknownCommand.{UnknownCommand}
 use Rattle.cell.specs.declared.error.CellError.{CellError}
 use Rattle.cell.specs.declared.error.CellError.TheVariants.{Length, Header, TooLong}
 
@@ -23,6 +24,15 @@ command_from b =
     (cond (b == 4) (Some Connected)
     (cond (b == 5) (Some Sendme)
     (cond (b == 10) (Some Drop) None)))))
+
+-- a byte is read as the command that it stands for; a byte that stands for none is given back
+abbrev pub Decodes : ℕ → Result Command UnknownCommand → Type 0
+Decodes byte r =
+    MatchResult r (λ c. (command_from byte ≡ Some c) × (command_byte c ≡ byte)) (λ e. (command_from byte ≡ None) × (e.0 ≡ byte))
+
+-- a command is written as its byte, which is read as the command again
+abbrev pub Encodes : Command → ℕ → Type 0
+Encodes c byte = (byte ≡ command_byte c) × (command_from byte ≡ Some c)
 
 -- BEGIN goes only from the client to a hop, CONNECTED only back
 abbrev pub goes_on : Command → Way → Bool

@@ -12,7 +12,7 @@ pub enum Command {
 }
 
 /// Forward is from the client to a hop, backward from a hop to the client.
-#[derive(Clone, Copy)]
+#[derive(Clone, Copy, PartialEq, Eq, Debug)]
 pub enum Way {
     Forward,
     Backward,

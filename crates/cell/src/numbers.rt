@@ -1,32 +1,40 @@
 //! The bytes that stand for commands, and the numbers that stand for refusals.
-ghost use Rattle.std.specs.Prelude.{◌≡◌, IfSome, Some};
-ghost use Rattle.cell.specs.Commands.{command_byte, command_from, goes_on, cell_error_number};
+ghost use Rattle.std.specs.Prelude.{◌≡◌};
+ghost use Rattle.cell.specs.Commands.{Decodes, Encodes, goes_on, cell_error_number};
 
 use crate::command::{Command, Way};
 use crate::error::CellError;
+use std::error::Error;
+use std::fmt;
 
-impl Command {
-    /// The command that a byte stands for; most bytes stand for none.
-    pub fn from_byte(byte: u8) -> Option<Command>
-        ensures reads { result ≡ command_from byte }
-        ensures back { IfSome result (λ c. command_byte c ≡ byte) }
-    {
+/// A byte that stands for no command.
+#[derive(Clone, Copy, PartialEq, Eq, Debug)]
+pub struct UnknownCommand(pub u8);
+
+/// The command that a byte stands for; most bytes stand for none.
+impl TryFrom<u8> for Command {
+    type Error = UnknownCommand;
+
+    ghost try_from_gives = { Decodes };
+
+    fn try_from(byte: u8) -> Result<Command, UnknownCommand> {
         match byte {
-            1 => Some(Command::Begin),
-            2 => Some(Command::Data),
-            3 => Some(Command::End),
-            4 => Some(Command::Connected),
-            5 => Some(Command::Sendme),
-            10 => Some(Command::Drop),
-            _ => None,
+            1 => Ok(Command::Begin),
+            2 => Ok(Command::Data),
+            3 => Ok(Command::End),
+            4 => Ok(Command::Connected),
+            5 => Ok(Command::Sendme),
+            10 => Ok(Command::Drop),
+            _ => Err(UnknownCommand(byte)),
         }
     }
+}
 
-    pub fn byte(self) -> u8
-        ensures writes { result ≡ command_byte self }
-        ensures back { command_from result ≡ Some self }
-    {
-        match self {
+impl From<Command> for u8 {
+    ghost from_gives = { Encodes };
+
+    fn from(command: Command) -> u8 {
+        match command {
             Command::Begin => 1,
             Command::Data => 2,
             Command::End => 3,
@@ -35,20 +43,30 @@ impl Command {
             Command::Drop => 10,
         }
     }
+}
 
+impl Command {
     /// Whether a payload of this command may go this way.
     pub fn goes(self, way: Way) -> bool
         ensures { result ≡ goes_on self way }
     {
-        match (self, way) {
-            (Command::Begin, Way::Backward) => false,
-            (Command::Connected, Way::Forward) => false,
-            (_, _) => true,
-        }
+        !matches!(
+            (self, way),
+            (Command::Begin, Way::Backward) | (Command::Connected, Way::Forward)
+        )
     }
 }
 
+impl fmt::Display for UnknownCommand {
+    fn fmt<W: fmt::Write>(&self, f: &mut fmt::Formatter<W>) -> fmt::Result {
+        write!(f, "no command has the byte {}", self.0)
+    }
+}
+
+impl Error for UnknownCommand {}
+
 impl CellError {
+    /// The number of the refusal in docs/refusals.md.
     pub fn number(&self) -> u8
         ensures { result ≡ cell_error_number self.now }
     {

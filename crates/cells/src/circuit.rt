@@ -2,7 +2,7 @@
 use crate::line::{CellLine, SlipLine};
 use crate::route::Route;
 use crate::tally::Tally;
-use anyhow::anyhow;
+use anyhow::{Context, anyhow};
 use cell::Way;
 use crypto::cipher::Cipher;
 use hops::End;
@@ -23,7 +23,7 @@ impl Circuit {
     pub fn new(heap: Global, suite: u16) -> Circuit {
         Circuit {
             suite,
-            tally: Tally::new(),
+            tally: Tally::default(),
             forward: Route::new(heap),
             backward: Route::new(heap),
             cells: 0,
@@ -35,7 +35,7 @@ impl Circuit {
         let SlipLine { suite, hop, key } = slip;
         if suite != self.suite
             || self.cells != 0
-            || hop as usize != self.forward.hops().saturating_add(1)
+            || usize::from(hop) != self.forward.hops().saturating_add(1)
         {
             return Err(anyhow!("a suite's slips come first, numbered from 1"));
         }
@@ -58,23 +58,17 @@ impl Circuit {
         }
         self.cells = self.cells.saturating_add(1);
         let before = self.tally.differences();
+        self.tally.cell(cell.way);
         match cell.way {
-            Way::Forward => {
-                self.tally.forward_cell();
-                self.forward.carry(cell, &mut self.tally)?;
-            }
-            Way::Backward => {
-                self.tally.backward_cell();
-                self.backward.bring(cell, &mut self.tally)?;
-            }
+            Way::Forward => self.forward.carry(cell, &mut self.tally)?,
+            Way::Backward => self.backward.bring(cell, &mut self.tally)?,
         }
         Ok(self.tally.differences().saturating_sub(before))
     }
 }
 
 fn opened(suite: u16, hop: u16, key: Vec<u8>) -> anyhow::Result<HopKeys> {
-    match Slip::new(suite, key).open(hop) {
-        Ok(keys) => Ok(keys),
-        Err(_) => Err(anyhow!("there is no such suite, or the key has not its length")),
-    }
+    Slip::new(suite, key)
+        .open(hop)
+        .context("there is no such suite, or the key has not its length")
 }

@@ -1,7 +1,7 @@
 //! The lines of a file: slips, and cells in the order in which they were sent.
-use crate::reading::{bytes, end, number, payload, text};
-use anyhow::anyhow;
-use cell::{Way, set_tag};
+use anyhow::{Context, anyhow};
+use cell::{PAYLOAD_SIZE, Way, set_tag};
+use fields::field::{bytes, end, short, text};
 use std::alloc::Global;
 
 /// `suite=S slip=K key=HEX`
@@ -30,16 +30,15 @@ pub struct CellLine {
 }
 
 pub fn is_slip(line: &str) -> bool {
-    match line.split(' ').nth(1) {
-        Some(part) => part.starts_with("slip="),
-        None => false,
-    }
+    line.split(' ')
+        .nth(1)
+        .is_some_and(|part| part.starts_with("slip="))
 }
 
 pub fn slip_line(heap: Global, line: &str) -> anyhow::Result<SlipLine> {
     let mut parts = line.split(' ');
-    let suite = number(parts.next(), "suite=")?;
-    let hop = number(parts.next(), "slip=")?;
+    let suite = short(parts.next(), "suite=")?;
+    let hop = short(parts.next(), "slip=")?;
     let key = bytes(heap, parts.next(), "key=")?;
     end(parts.next())?;
     Ok(SlipLine { suite, hop, key })
@@ -47,18 +46,15 @@ pub fn slip_line(heap: Global, line: &str) -> anyhow::Result<SlipLine> {
 
 pub fn cell_line(heap: Global, line: &str) -> anyhow::Result<CellLine> {
     let mut parts = line.split(' ');
-    let suite = number(parts.next(), "suite=")?;
-    let n = number(parts.next(), "n=")?;
+    let suite = short(parts.next(), "suite=")?;
+    let n = short(parts.next(), "n=")?;
     let way = way_of(text(parts.next(), "way=")?)?;
-    let hop = number(parts.next(), "hop=")?;
-    if hop == 0 {
-        return Err(anyhow!("hops are numbered from 1"));
-    }
+    let hop = short(parts.next(), "hop=")?;
+    let place = usize::from(hop)
+        .checked_sub(1)
+        .context("hops are numbered from 1")?;
     let plain = payload(heap, parts.next(), "plain=")?;
-    let far = match way {
-        Way::Forward => false,
-        Way::Backward => hop > 1,
-    };
+    let far = matches!(way, Way::Backward) && hop > 1;
     let own = if far { hop } else { 1 };
     let link = format!(in heap; "link{own}=")?;
     let sent = payload(heap, parts.next(), link.as_str())?;
@@ -74,7 +70,7 @@ pub fn cell_line(heap: Global, line: &str) -> anyhow::Result<CellLine> {
         suite,
         n,
         way,
-        place: hop as usize - 1,
+        place,
         plain,
         sent,
         arrived,
@@ -82,6 +78,15 @@ pub fn cell_line(heap: Global, line: &str) -> anyhow::Result<CellLine> {
     })
 }
 
+fn payload(heap: Global, part: Option<&str>, name: &str) -> anyhow::Result<Vec<u8>> {
+    let payload = bytes(heap, part, name)?;
+    if payload.len() != PAYLOAD_SIZE {
+        return Err(anyhow!("a payload is not 509 bytes"));
+    }
+    Ok(payload)
+}
+
+// No `TryFrom`: `Way` is of the crate `cell`, and the letters are this program's.
 fn way_of(text: &[u8]) -> anyhow::Result<Way> {
     match text {
         b"f" => Ok(Way::Forward),
@@ -92,11 +97,7 @@ fn way_of(text: &[u8]) -> anyhow::Result<Way> {
 
 // The tag is the first four of the digest's 20 bytes.
 fn with_tag(mut payload: Vec<u8>, digest: &[u8]) -> anyhow::Result<Vec<u8>> {
-    if digest.len() != 20 {
-        return Err(anyhow!("a digest is not 20 bytes"));
-    }
-    match set_tag(&mut payload, [digest[0], digest[1], digest[2], digest[3]]) {
-        Ok(()) => Ok(payload),
-        Err(_) => Err(anyhow!("a payload is not 509 bytes")),
-    }
+    let [a, b, c, d, ..] = <[u8; 20]>::try_from(digest).context("a digest is not 20 bytes")?;
+    set_tag(&mut payload, [a, b, c, d]).context("a payload is not 509 bytes")?;
+    Ok(payload)
 }

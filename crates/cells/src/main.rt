@@ -3,7 +3,6 @@
 
 mod circuit;
 mod line;
-mod reading;
 mod route;
 mod tally;
 
@@ -24,6 +23,7 @@ fn main(rt: HostRuntime) -> anyhow::Result<()> {
 }
 
 fn run(rt: &HostRuntime) -> anyhow::Result<()> {
+    // Counted here and not by a fold, since a file that cannot be read ends the run.
     let mut files: u32 = 0;
     let mut differ: u32 = 0;
     for path in env::args(rt)?.skip(1) {
@@ -45,9 +45,7 @@ fn file(rt: &HostRuntime, path: &str) -> anyhow::Result<u32> {
     let text = fs::read_to_string(rt, path)?;
     let mut circuit = Circuit::new(heap, 0);
     let mut differ: u32 = 0;
-    let mut number: u32 = 0;
-    for line in text.as_str().lines() {
-        number = number.saturating_add(1);
+    for (number, line) in (1u64..).zip(text.as_str().lines()) {
         match step(rt, &mut circuit, line) {
             Ok(0) => {}
             Ok(n) => {
@@ -83,10 +81,8 @@ fn step(rt: &HostRuntime, circuit: &mut Circuit, line: &str) -> anyhow::Result<u
 }
 
 fn print_tally(rt: &HostRuntime, circuit: &Circuit) -> anyhow::Result<()> {
-    let suite = circuit.suite;
-    let tally = circuit.tally;
-    if suite != 0 {
-        println!(rt; "suite {suite}: {tally}")?;
+    if circuit.suite != 0 {
+        println!(rt; "suite {}: {}", circuit.suite, circuit.tally)?;
     }
     Ok(())
 }

@@ -1,8 +1,10 @@
 //! What was compared, and how much of it differs.
+use cell::Way;
 use std::fmt;
 
-/// Cells of each way, payloads that were compared on links, cells that their hop recognised, and differences.
-#[derive(Clone, Copy)]
+/// Cells of each way, payloads that were compared on links, cells that their hop recognised, and differences. Counted by hand,
+/// since what a cell adds depends on what became of it.
+#[derive(Clone, Copy, Default)]
 pub struct Tally {
     forward: u32,
     backward: u32,
@@ -12,36 +14,27 @@ pub struct Tally {
 }
 
 impl Tally {
-    pub fn new() -> Tally {
-        Tally {
-            forward: 0,
-            backward: 0,
-            links: 0,
-            recognised: 0,
-            differ: 0,
+    pub fn cell(&mut self, way: Way) {
+        match way {
+            Way::Forward => self.forward = self.forward.saturating_add(1),
+            Way::Backward => self.backward = self.backward.saturating_add(1),
         }
-    }
-
-    pub fn forward_cell(&mut self) {
-        self.forward = self.forward.saturating_add(1);
-    }
-
-    pub fn backward_cell(&mut self) {
-        self.backward = self.backward.saturating_add(1);
     }
 
     /// A payload on a link, beside the one given.
     pub fn link(&mut self, found: &[u8], given: &[u8]) {
         self.links = self.links.saturating_add(1);
-        if found != given {
-            self.differs();
-        }
+        self.beside(found, given);
     }
 
     /// A payload that its hop recognised, beside the one that was sealed.
     pub fn recognised(&mut self, found: &[u8], sealed: &[u8]) {
         self.recognised = self.recognised.saturating_add(1);
-        if found != sealed {
+        self.beside(found, sealed);
+    }
+
+    fn beside(&mut self, found: &[u8], due: &[u8]) {
+        if found != due {
             self.differs();
         }
     }
@@ -58,14 +51,10 @@ impl Tally {
 
 impl fmt::Display for Tally {
     fn fmt<W: fmt::Write>(&self, f: &mut fmt::Formatter<W>) -> fmt::Result {
-        let forward = self.forward;
-        let backward = self.backward;
-        let links = self.links;
-        let recognised = self.recognised;
-        let differ = self.differ;
         write!(
             f,
-            "{forward} cells forward, {backward} backward; {links} payloads on links compared, {recognised} cells recognised where they should be, {differ} differ"
+            "{} cells forward, {} backward; {} payloads on links compared, {} cells recognised where they should be, {} differ",
+            self.forward, self.backward, self.links, self.recognised, self.differ
         )
     }
 }

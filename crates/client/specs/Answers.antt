@@ -1,25 +1,25 @@
 -- What a client answers, and what becomes of it and of the payload. The host says whether there is room for a payload that goes on.
-use Rattle.std.specs.Prelude.{ℕ, suc, ◌+◌, ◌-◌, Bool, false, cond, ◌||◌, List, length, Some, None, Ok, vec_len, Option, Result, ◌==◌, nat_lt, slice_set}
+use Rattle.std.specs.Prelude.{ℕ, suc, ◌+◌, ◌-◌, Bool, cond, ◌||◌, List, length, Some, None, Option, Result, ◌==◌, nat_lt, slice_set}
 use Rattle.crypto.specs.declared.cipher.Cipher as cipher
 use Rattle.crypto.specs.declared.digest.Digest as digest
 use Rattle.cell.specs.Payload.{Message, blank}
-use Rattle.model.specs.Ends.{Rules, wrapped, advanced, coincidence, recognised_at, unwrapped}
+use Rattle.model.specs.Ends.{Rules, worn_out, wrapped, advanced, coincidence, recognised_at, unwrapped}
 use Rattle.model.specs.Messages.{sendme}
 use Rattle.model.specs.Flows.{Flow, acknowledged}
 use Rattle.model.specs.Streams.{or_unchanged, client_sends}
 use Rattle.model.specs.Circuit as model
 use Rattle.model.specs.Calls.{refusal, Outcome, stops, passes_on, delivers, flow_at, client_sent, client_outcome, client_took, client_send_refusal, client_acknowledge_refusal}
+use Rattle.cell.specs.declared.command.Way.TheVariants.{Forward}
 use Rattle.hops.specs.Views.{rules}
+use Rattle.rows.specs.Views.{row_len}
 use Rattle.messages.specs.declared.faults.EndFault.{EndFault}
 use Rattle.messages.specs.Delivery.{handed}
-use Rattle.messages.specs.Answers.{placed, unless_coincides, send_answer}
+use Rattle.messages.specs.Refusals.{Sending}
+use Rattle.messages.specs.Answers.{placed, send_answer}
 use Rattle.client.specs.declared.parts.Client.{Client}
 use Rattle.client.specs.Views.{client_seen}
 
 ---- sending
-abbrev pub if_room : Bool → Option ℕ → Result Bool EndFault
-if_room room o = cond room (unless_coincides o) (Ok false)
-
 -- m was sent to the hop at place d, and f is counted for it now
 abbrev pub sent_by : {K S : Type 0} → Rules K S → model.Client K S → ℕ → Flow → Message → model.Client K S
 sent_by R c d f m =
@@ -53,7 +53,12 @@ module _ {C D : Type 0} (c : cipher.Ghosts C) (d : digest.Ghosts D) where
   -- another length gives 1 and a hop that is not there 7, before everything else
   abbrev pub at_hop : Client C D → ℕ → List ℕ → Option ℕ → Option model.Refusal
   at_hop x hop p o =
-      cond (length p == 509) (cond (hop == 0 || nat_lt (vec_len x.forward) hop) (Some (refusal 7 hop)) (placed hop o)) (Some (refusal 1 0))
+      cond (length p == 509) (cond (hop == 0 || nat_lt (row_len x.forward) hop) (Some (refusal 7 hop)) (placed hop o)) (Some (refusal 1 0))
+
+  -- what the rules look at where the client is about to send to the hop at place e
+  abbrev pub sender_to : Client C D → ℕ → Sending
+  sender_to x e =
+      record { way = Forward; hop = e + 1; flow = flow_at (rules c d) (client_seen d x) e; worn = worn_out (client_seen d x).forward e; streams = (client_seen d x).streams }
 
   ---- sending: the answer, the client afterwards, the payload
   abbrev pub client_answer : Client C D → Bool → ℕ → Message → List ℕ → Result Bool EndFault

@@ -2,10 +2,15 @@
 //! refusal leaves payload and client as they were.
 #![tactic(auto)]
 
+mod acknowledging;
+mod faults;
 mod numbers;
 mod opening;
 mod parts;
+mod posting;
 mod receiving;
 mod sending;
+mod texts;
 
-pub use parts::{Client, OpenError};
+pub use faults::OpenError;
+pub use parts::Client;

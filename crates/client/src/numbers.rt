@@ -2,7 +2,7 @@
 ghost use Rattle.std.specs.Prelude.{◌≡◌};
 ghost use Rattle.client.specs.Views.{open_number};
 
-use crate::parts::OpenError;
+use crate::faults::OpenError;
 
 impl OpenError {
     /// The number of the case, one definition for all of them; want of memory has none.

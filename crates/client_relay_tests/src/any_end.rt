@@ -2,8 +2,9 @@
 use client::Client;
 use crypto::cipher::Cipher;
 use crypto::digest::Digest;
-use messages::EndFault;
+use messages::{EndFault, Message};
 use relay::Relay;
+use std::fmt::Debug;
 use std::process::Abort;
 use std::test::*;
 
@@ -16,19 +17,18 @@ pub type Refusal = (u8, u16);
 /// What was delivered, or why a call was refused.
 pub type Answer = Result<Heading, Refusal>;
 
-/// The answer is the one that is due.
-pub fn same(rt: &impl Abort, answer: Answer, due: Answer) -> Result<(), Fail> {
-    assert_eq!(rt; answer, due);
-    Ok(())
+/// A message of a command, a stream and data.
+pub fn message(command: u8, stream: u16, content: &[u8]) -> Message<'_> {
+    Message {
+        command,
+        stream,
+        content,
+    }
 }
 
-/// So is what a call answers that delivers nothing.
-pub fn same_refusal(
-    rt: &impl Abort,
-    answer: Result<(), Refusal>,
-    due: Result<(), Refusal>,
-) -> Result<(), Fail> {
-    assert_eq!(rt; answer, due);
+/// What was answered is what is due.
+pub fn same<T: PartialEq + Debug + Drop>(rt: &impl Abort, found: T, due: T) -> Result<(), Fail> {
+    assert_eq!(rt; found, due);
     Ok(())
 }
 
@@ -42,14 +42,7 @@ pub trait AnyEnd {
     fn take_in(&mut self, payload: &mut [u8]) -> Result<(Heading, usize), Refusal>;
 
     /// A client sends to the hop, and the hop's relay replies.
-    fn say(
-        &mut self,
-        hop: u16,
-        command: u8,
-        stream: u16,
-        content: &[u8],
-        payload: &mut [u8],
-    ) -> Result<(), Refusal>;
+    fn say(&mut self, hop: u16, message: &Message<'_>, payload: &mut [u8]) -> Result<(), Refusal>;
 
     /// DATA of the hop is acknowledged.
     fn admit(&mut self, hop: u16, payload: &mut [u8]) -> Result<(), Refusal>;
@@ -59,10 +52,7 @@ pub trait AnyEnd {
 }
 
 fn seen<T>(answer: Result<T, EndFault>) -> Result<T, Refusal> {
-    match answer {
-        Ok(value) => Ok(value),
-        Err(fault) => Err((fault.number(), fault.at)),
-    }
+    answer.map_err(|fault| (fault.number(), fault.at))
 }
 
 impl<C: Cipher, D: Digest + Drop> AnyEnd for Client<C, D> {
@@ -70,15 +60,8 @@ impl<C: Cipher, D: Digest + Drop> AnyEnd for Client<C, D> {
         seen(self.receive(payload))
     }
 
-    fn say(
-        &mut self,
-        hop: u16,
-        command: u8,
-        stream: u16,
-        content: &[u8],
-        payload: &mut [u8],
-    ) -> Result<(), Refusal> {
-        seen(self.send(hop, command, stream, content, payload))
+    fn say(&mut self, hop: u16, message: &Message<'_>, payload: &mut [u8]) -> Result<(), Refusal> {
+        seen(self.send(hop, message, payload))
     }
 
     fn admit(&mut self, hop: u16, payload: &mut [u8]) -> Result<(), Refusal> {
@@ -95,15 +78,8 @@ impl<C: Cipher, D: Digest + Drop> AnyEnd for Relay<C, D> {
         seen(self.receive(payload))
     }
 
-    fn say(
-        &mut self,
-        _hop: u16,
-        command: u8,
-        stream: u16,
-        content: &[u8],
-        payload: &mut [u8],
-    ) -> Result<(), Refusal> {
-        seen(self.reply(command, stream, content, payload))
+    fn say(&mut self, _hop: u16, message: &Message<'_>, payload: &mut [u8]) -> Result<(), Refusal> {
+        seen(self.reply(message, payload))
     }
 
     fn admit(&mut self, _hop: u16, payload: &mut [u8]) -> Result<(), Refusal> {

@@ -1,5 +1,5 @@
 //! A client and its relays, with nothing but a payload between them.
-use crate::any_end::{Answer, AnyEnd, Refusal, same, same_bytes};
+use crate::any_end::{Answer, AnyEnd, Refusal, message, same, same_bytes};
 use crate::marked::{Marked, end, row};
 use cell::PayloadReader;
 use client::Client;
@@ -38,22 +38,15 @@ pub fn relay<C: Cipher + Marked + Drop, D: Digest + Marked + Drop>(
     forward: u8,
     backward: u8,
 ) -> Result<Relay<C, D>, Fail> {
-    match Relay::new(hop, last, end(forward), end(backward)) {
-        Ok(relay) => Ok(relay),
-        Err(_) => Err(Fail::new("no relay")),
-    }
+    Ok(Relay::new(hop, last, end(forward), end(backward))?)
 }
 
 impl<C: Cipher + Marked + Drop, D: Digest + Marked + Drop> Circuit<C, D> {
     /// A hop for each byte, the nearest first; the bytes of the way forward and those of the way backward.
     pub fn new(heap: Global, forward: &[u8], backward: &[u8]) -> Result<Circuit<C, D>, Fail> {
-        let Ok(client) = Client::new(heap, row(heap, forward)?, row(heap, backward)?) else {
-            return Err(Fail::new("no client"));
-        };
+        let client = Client::new(heap, row(heap, forward)?, row(heap, backward)?)?;
         let mut relays = Vec::new(heap);
-        let mut hop: u16 = 0;
-        for (f, b) in forward.iter().zip(backward.iter()) {
-            hop = hop.saturating_add(1);
+        for (hop, (f, b)) in (1..=8u16).zip(forward.iter().zip(backward)) {
             relays.push(relay(hop, hop as usize == forward.len(), *f, *b)?)?;
         }
         Ok(Circuit { client, relays })
@@ -69,13 +62,9 @@ fn content_of(step: Step) -> &'static [u8] {
 }
 
 fn has_data(payload: &[u8], len: usize, content: &[u8]) -> bool {
-    let Ok(reader) = PayloadReader::new(payload) else {
-        return false;
-    };
-    match reader.data_part() {
-        Ok(part) => part.len == len && part.bytes == content,
-        Err(_) => false,
-    }
+    PayloadReader::new(payload)
+        .and_then(|reader| reader.data_part())
+        .is_ok_and(|part| part.len == len && part.bytes == content)
 }
 
 // What an end makes of a payload. If it is delivered it has the data that was sent, and if it is refused it stays as it was.
@@ -104,21 +93,20 @@ fn said<E: AnyEnd>(
     end: &mut E,
     step: Step,
     payload: &mut [u8; 509],
-) -> Result<Option<Refusal>, Fail> {
+) -> Result<Result<(), Refusal>, Fail> {
     let before = *payload;
     let answer = match step {
         Step::Out(hop, command, stream) | Step::Back(hop, command, stream) => end.say(
-            hop, command, stream, CONTENT, payload,
+            hop,
+            &message(command, stream, CONTENT),
+            payload,
         ),
         Step::AdmitOut(hop) | Step::AdmitBack(hop) => end.admit(hop, payload),
     };
-    match answer {
-        Ok(()) => Ok(None),
-        Err(refusal) => {
-            same_bytes(rt, payload, &before)?;
-            Ok(Some(refusal))
-        }
+    if answer.is_err() {
+        same_bytes(rt, payload, &before)?;
     }
+    Ok(answer)
 }
 
 impl<C: Cipher, D: Digest + Drop> Circuit<C, D> {
@@ -154,7 +142,7 @@ impl<C: Cipher, D: Digest + Drop> Circuit<C, D> {
     // From the client, and from relay to relay outward, until one delivers or refuses it.
     fn out(&mut self, rt: &impl Abort, step: Step) -> Result<Answer, Fail> {
         let mut payload = [9u8; 509];
-        if let Some(refusal) = said(rt, &mut self.client, step, &mut payload)? {
+        if let Err(refusal) = said(rt, &mut self.client, step, &mut payload)? {
             return Ok(Err(refusal));
         }
         for relay in self.relays.iter_mut() {
@@ -169,16 +157,13 @@ impl<C: Cipher, D: Digest + Drop> Circuit<C, D> {
     // From the relay of a hop, and through those nearer to the client.
     fn back(&mut self, rt: &impl Abort, hop: u16, step: Step) -> Result<Answer, Fail> {
         let mut payload = [9u8; 509];
-        let Some(relay) = self.relays.get_mut(hop.saturating_sub(1) as usize) else {
-            return Err(Fail::new("no such relay"));
-        };
-        if let Some(refusal) = said(rt, relay, step, &mut payload)? {
+        let place = hop.saturating_sub(1) as usize;
+        let relay = self.relays.get_mut(place).ok_or("no such relay")?;
+        if let Err(refusal) = said(rt, relay, step, &mut payload)? {
             return Ok(Err(refusal));
         }
-        for i in (0..hop.saturating_sub(1)).rev() {
-            if let Some(nearer) = self.relays.get_mut(i as usize) {
-                assert!(rt; nearer.go_by(&mut payload));
-            }
+        for nearer in self.relays.iter_mut().take(place).rev() {
+            assert!(rt; nearer.go_by(&mut payload));
         }
         taken(rt, &mut self.client, step, &mut payload)
     }

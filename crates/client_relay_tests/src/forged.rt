@@ -10,16 +10,17 @@ use std::test::*;
 #[derive(Clone, Copy)]
 pub struct Forged(pub u8, pub u8, pub u16);
 
-fn blank(forged: Forged) -> [u8; 509] {
+/// By hand, since `write_payload` writes nothing that a rule forbids.
+pub fn blank(forged: Forged) -> [u8; 509] {
     let Forged(command, stream, length) = forged;
     let mut payload = [0u8; 509];
     payload[0] = command;
     payload[4] = stream;
-    payload[9] = (length / 256) as u8;
-    payload[10] = (length % 256) as u8;
+    payload[9..11].copy_from_slice(&length.to_be_bytes());
     payload
 }
 
+// End and sender are lent one by one, since a test lets strangers send to the same end.
 /// What an end answers to a payload that is sealed and has the sender's layer. One that is taken has lost the layer, and the sender
 /// moves on; one that is refused stays as it was, and the sender is where it was.
 pub fn forge<E: AnyEnd, C: Cipher, D: Digest + Drop>(
@@ -29,9 +30,7 @@ pub fn forge<E: AnyEnd, C: Cipher, D: Digest + Drop>(
     forged: Forged,
 ) -> Result<Answer, Fail> {
     let mut payload = blank(forged);
-    let Ok(taken) = sender.seal(&mut payload) else {
-        return Err(Fail::new("not 509 bytes"));
-    };
+    let taken = sender.seal(&mut payload)?;
     let sealed = payload;
     sender.add_layer(&mut payload);
     let covered = payload;
@@ -48,6 +47,7 @@ pub fn forge<E: AnyEnd, C: Cipher, D: Digest + Drop>(
     }
 }
 
+// As `play` and `repeat` of a circuit: one function for both would need a closure that borrows end and sender changeably.
 /// Each payload has its answer.
 pub fn forge_all<E: AnyEnd, C: Cipher, D: Digest + Drop>(
     rt: &impl Abort,

@@ -2,6 +2,8 @@
 #![tactic(auto)]
 
 #[cfg(test)]
+mod alone;
+#[cfg(test)]
 mod any_end;
 #[cfg(test)]
 mod circuit;
@@ -19,6 +21,8 @@ mod passing;
 mod records;
 #[cfg(test)]
 mod refusals;
+#[cfg(test)]
+mod texts;
 #[cfg(test)]
 mod toys;
 #[cfg(test)]

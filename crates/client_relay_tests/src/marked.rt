@@ -4,6 +4,7 @@ use aes::CounterMode;
 use crypto::cipher::Cipher;
 use crypto::digest::Digest;
 use hops::End;
+use rows::Row;
 use sha_1::running::Sha1;
 use std::alloc::{AllocError, Global};
 
@@ -26,7 +27,7 @@ impl Marked for Fixed {
 
 impl Marked for CounterMode {
     fn marked(byte: u8) -> CounterMode {
-        CounterMode::new_128(&[byte; 16])
+        CounterMode::new(&[byte; 16])
     }
 }
 
@@ -44,8 +45,8 @@ pub fn end<C: Cipher + Marked, D: Digest + Marked + Drop>(byte: u8) -> End<C, D>
 pub fn row<C: Cipher + Marked + Drop, D: Digest + Marked + Drop>(
     heap: Global,
     bytes: &[u8],
-) -> Result<Vec<End<C, D>>, AllocError> {
-    let mut ends = Vec::new(heap);
+) -> Result<Row<C, D>, AllocError> {
+    let mut ends = Row::new(Vec::new(heap));
     for byte in bytes {
         ends.push(end(*byte))?;
     }

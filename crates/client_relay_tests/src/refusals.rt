@@ -1,5 +1,5 @@
 //! What the ends refuse, and that nothing of it stays: what follows is taken as if the refused had not been.
-use crate::any_end::{Answer, AnyEnd, Refusal, same_refusal};
+use crate::any_end::{Answer, AnyEnd, Refusal, message, same};
 use crate::circuit::{Circuit, Step, relay};
 use crate::forged::{Forged, forge_all, forge_many};
 use crate::marked::end;
@@ -63,7 +63,7 @@ fn counts_late<E: AnyEnd, C: Cipher, D: Digest + Drop>(
     for (times, answer, admitted) in rows {
         forge_many(rt, end, sender, times, Forged(2, 9, 0), answer)?;
         if let Some(due) = admitted {
-            same_refusal(rt, admits(end, at), due)?;
+            same(rt, admits(end, at), due)?;
         }
     }
     Ok(())
@@ -114,10 +114,18 @@ fn sizes<E: AnyEnd>(
     content: &[u8],
 ) -> Result<(), Fail> {
     assert_eq!(rt; end.take_in(short), Err((1, 0)));
-    same_refusal(rt, end.say(0, 9, 0, content, short), Err((1, 0)))?;
-    same_refusal(rt, end.admit(0, short), Err((1, 0)))?;
-    same_refusal(rt, end.say(1, 9, 1, content, payload), Err((5, 1)))?;
-    same_refusal(rt, end.say(1, 10, 1, content, payload), Err((6, 1)))
+    same(rt, end.say(0, &message(9, 0, content), short), Err((1, 0)))?;
+    same(rt, end.admit(0, short), Err((1, 0)))?;
+    same(
+        rt,
+        end.say(1, &message(9, 1, content), payload),
+        Err((5, 1)),
+    )?;
+    same(
+        rt,
+        end.say(1, &message(10, 1, content), payload),
+        Err((6, 1)),
+    )
 }
 
 #[test]

@@ -1,6 +1,5 @@
 //! A cipher and a digest that show what the ends do, and protect nothing.
-ghost use Rattle.std.specs.Prelude.{ℕ, [], ◌∷◌};
-ghost use Rattle.std.proofs.Common.{rules};
+ghost use Rattle.std.specs.Prelude.{ℕ, [], ◌∷◌, refl};
 
 use crypto::cipher::Cipher;
 use crypto::digest::{Digest, Trial};
@@ -14,13 +13,13 @@ impl Cipher for Identity {
 
     ghost removed = { λ c n p. p };
 
-    ghost remove_undoes_add = { Prim.search rules };
+    ghost remove_undoes_add = { λ c n p long. refl };
 
-    ghost add_undoes_remove = { Prim.search rules };
+    ghost add_undoes_remove = { λ c n p long. refl };
 
-    ghost added_length = { Prim.search rules };
+    ghost added_length = { λ c n p. refl };
 
-    ghost removed_length = { Prim.search rules };
+    ghost removed_length = { λ c n p. refl };
 
     fn add(&self, _n: u32, _payload: &mut [u8]) {}
 
@@ -42,17 +41,17 @@ impl Digest for Fixed {
 
     ghost tags = { λ s p. s ∷ (s ∷ (s ∷ (s ∷ []))) };
 
-    ghost tag_length = { Prim.search rules };
+    ghost tag_length = { λ s p. refl };
 
     fn take(&mut self, _payload: &[u8]) {}
 
     fn tag(&self, _payload: &[u8]) -> [u8; 4] {
-        [self.byte, self.byte, self.byte, self.byte]
+        [self.byte; 4]
     }
 
-    fn trial(&self, _payload: &[u8]) -> Trial<Fixed> {
+    fn trial(&self, payload: &[u8]) -> Trial<Fixed> {
         Trial {
-            tag: [self.byte, self.byte, self.byte, self.byte],
+            tag: self.tag(payload),
             taken: *self,
         }
     }

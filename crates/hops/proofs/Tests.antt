@@ -1,10 +1,8 @@
 -- When the test at a hop passes, and when it fails.
-use Rattle.std.proofs.Common.{◌≡◌, ℕ, ◌+◌, ◌*◌, ◌<◌, Bool, true, false, ◌&&◌, eqb, List, [], ◌∷◌, length, get_or, Some, None, refl, ⊎_elim, arith}
-use Rattle.std.proofs.lemmas.Bool.{cases_Bool, eq-eqb, eqb-true}
+use Rattle.std.proofs.Common.{◌≡◌, ℕ, ◌+◌, ◌*◌, ◌<◌, Bool, true, false, ◌&&◌, eqb, List, [], ◌∷◌, length, get_or, refl, arith}
+use Rattle.std.proofs.lemmas.Bool.{eq-eqb}
 use Rattle.std.proofs.lemmas.Bool.Decides.{nat_tests}
 use Rattle.cell.proofs.Payloads.{by-tag}
-use Rattle.cell.specs.declared.error.CellError.{CellError}
-use Rattle.cell.specs.Refusals.{size_refusal}
 use Rattle.cell.specs.Payload.{recognised_of, tag_of, zeroed}
 use Rattle.model.specs.Lists.{same}
 use Rattle.model.specs.Ends.{recognises}
@@ -31,7 +29,7 @@ module _ {S : Type 0} (tags : S → List ℕ → List ℕ) (s : S) (p : List ℕ
   unfolding recognises
   checked e = rest (eqb (length p) 509) (eqb (recognised_of p) 0) (same (tag_of p) (tags s (zeroed p))) e
 
-abbrev pub word : List ℕ → ℕ
+abbrev word : List ℕ → ℕ
 word t = get_or t 0 0 * 16777216 + get_or t 1 0 * 65536 + get_or t 2 0 * 256 + get_or t 3 0
 
 -- four bytes are the same exactly if the words that they write are
@@ -49,14 +47,3 @@ same-words a b la lb =
 -- at a payload's own length the test is that of the model
 pub at_length : (p : List ℕ) (b : Bool) → length p ≡ 509 → (eqb (length p) 509 && b) ≡ b
 at_length p b l = rw (eq-eqb (length p) 509 l)
-
--- what a refusal by size says of the size
-pub accepted-size : (p : List ℕ) → size_refusal 509 p ≡ None → length p ≡ 509
-accepted-size p e =
-    ⊎_elim
-    (λ (whole : eqb (length p) 509 ≡ true). eqb-true (length p) 509 whole)
-    (λ (other : eqb (length p) 509 ≡ false). let no = rw other at e in absurd (let z : ◌≡◌ {A = ℕ} 0 1 = cc in omega arith))
-    (cases_Bool (eqb (length p) 509))
-
-pub refused-size : (p : List ℕ) (w : CellError) → size_refusal 509 p ≡ Some w → length p ≡ 509 → ⊥
-refused-size p w e l = let no = rw (eq-eqb (length p) 509 l) at e in let z : ◌≡◌ {A = ℕ} 0 1 = cc in omega arith

@@ -3,6 +3,7 @@
 #![tactic(auto)]
 
 mod relay;
+mod route;
 mod script;
 mod send;
 mod watch;
@@ -28,9 +29,7 @@ fn run(rt: &HostRuntime) -> anyhow::Result<()> {
         return Ok(());
     }
     let mut script = Script::new(heap);
-    let mut number: u32 = 0;
-    for line in text.as_str().lines() {
-        number = number.saturating_add(1);
+    for (number, line) in (1u64..).zip(text.as_str().lines()) {
         if let Err(e) = script.line(rt, line) {
             println!(rt; "line {number}: {e}")?;
             println!(rt; "{USAGE}")?;

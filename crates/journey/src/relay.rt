@@ -1,11 +1,10 @@
 //! What a relay does with a payload that comes outward.
-use cell::PayloadReader;
 use crypto::cipher::Cipher;
 use crypto::digest::Digest;
-use hops::End;
+use hops::{End, check_is_zero};
 
-/// What became of a payload at a relay.
-#[derive(Clone, Copy)]
+/// What became of a payload at a relay. Three cases: the two that pass it on are printed differently.
+#[derive(Clone, Copy, Debug, PartialEq, Eq)]
 pub enum Fate {
     /// The test passed: the payload is for this relay.
     Recognised,
@@ -23,14 +22,9 @@ pub fn receive<C: Cipher, D: Digest + Drop>(relay: &mut End<C, D>, payload: &mut
         return Fate::Recognised;
     }
     relay.move_on();
-    match PayloadReader::new(payload) {
-        Ok(reader) => {
-            if reader.recognised() == 0 {
-                Fate::PassingByChance
-            } else {
-                Fate::Passing
-            }
-        }
-        Err(_) => Fate::Passing,
+    if check_is_zero(payload) {
+        Fate::PassingByChance
+    } else {
+        Fate::Passing
     }
 }

@@ -1,19 +1,24 @@
 //! A link that keeps the bytes of its cells in one ring.
-ghost use Rattle.std.specs.Prelude.{◌≡◌, ℕ, ◌-◌, ◌*◌, ◌/◌, ◌%◌, ◌<◌, ◌≤◌, true, false, [], length, take, drop, MatchOption, MatchResult};
+#![tactic(auto, using(crate::proofs::Slots::bytes_of_cells))]
+
+ghost use Rattle.std.specs.Prelude.{◌≡◌, ℕ, ◌-◌, ◌*◌, ◌/◌, ◌%◌, ◌<◌, ◌≤◌, true, false, [], length, take, drop, MatchResult};
 ghost use Rattle.queue.specs.Ring.{waiting};
 ghost use Rattle.links.specs.Cuts.{cut};
 ghost use Rattle.links.specs.Kinds.{takes};
-ghost use Rattle.std.proofs.Common.{arith, rules};
-ghost use Rattle.links.specs.Wholes.{length_cut, whole-cut};
-ghost use Rattle.queue.proofs.Turns.{length-waiting};
+ghost use Rattle.links.specs.Wholes.{few_cells, cut_bounded, cut_whole};
 
 use crate::fault::{LinkError, NewLinkError};
 use crate::link::Link;
+use crate::sizes::{CELL_SIZE, START, takes, whole_cell};
 use queue::Place;
 
+/// How many bytes the ring has.
+const RING_SIZE: usize = 2_100;
+
+/// A ring and a place in it, and no `VecDeque`: a link's memory is fixed when it is made, and `queue` has the one code for both kinds.
 #[derive(Drop)]
 pub struct ByteLink {
-    ring: [u8; 2100],
+    ring: [u8; RING_SIZE],
     place: Place,
     capacity: usize,
     ghost sound: { (length ring ≡ 2100) × (place.head < 2100) × (place.count % 514 ≡ 0) × (place.count ≤ capacity * 514) },
@@ -27,12 +32,12 @@ impl ByteLink {
             (λ l. (takes 4 capacity ≡ true) × (l.capacity ≡ capacity) × (l.place.count ≡ 0))
             (λ e. (takes 4 capacity ≡ false) × (e ≡ NewLinkError.Capacity)) }
     {
-        if capacity < 1 || capacity > 4 {
+        if !takes(4, capacity) {
             return Err(NewLinkError::Capacity);
         }
         Ok(ByteLink {
-            ring: [0; 2100],
-            place: Place { head: 0, count: 0 },
+            ring: [0; RING_SIZE],
+            place: START,
             capacity,
         })
     }
@@ -40,38 +45,37 @@ impl ByteLink {
     fn whole_cells(&self) -> usize
         ensures { result ≡ self.now.place.count / 514 }
     {
-        self.place.count / 514
+        self.place.count / CELL_SIZE
     }
 
     fn is_full(&self) -> bool
-        ensures yes { result ≡ true → self.now.capacity ≤ self.now.place.count / 514 }
-        ensures no { result ≡ false → self.now.place.count / 514 < self.now.capacity }
+        ensures full { result ≡ true → self.now.capacity ≤ self.now.place.count / 514 }
+        ensures has_room { result ≡ false → self.now.place.count / 514 < self.now.capacity }
     {
         self.whole_cells() >= self.capacity
     }
 
-    // Whether a cell waits; if so, the oldest is copied out.
-    fn copy_oldest(&self, cell: &mut [u8]) -> bool
+    // (No `From<QueueError>`, here and below: a place astray, which no link has, would have to be one of a link's refusals.)
+    // Copies the oldest cell out, where one waits.
+    fn copy_oldest(&self, cell: &mut [u8]) -> Result<(), LinkError>
         requires { length cell.old ≡ 514 }
-        ensures yes { result ≡ true → (514 ≤ self.now.place.count) × (cell.new ≡ take 514 (waiting self.now.ring self.now.place)) }
-        ensures no { result ≡ false → (self.now.place.count < 514) × (cell.new ≡ cell.old) }
+        ensures { MatchResult result
+            (λ _. (514 ≤ self.now.place.count) × (cell.new ≡ take 514 (waiting self.now.ring self.now.place)))
+            (λ e. (self.now.place.count < 514) × (e ≡ LinkError.Empty) × (cell.new ≡ cell.old)) }
     {
-        queue::copy_out(&self.ring, self.place, cell).is_ok()
+        queue::copy_out(&self.ring, self.place, cell).map_err(|_| LinkError::Empty)
     }
 
     // The place once the oldest cell is gone, where one waits.
-    fn past_oldest(&self) -> Option<Place>
-        ensures { MatchOption result
-            (self.now.place.count < 514)
+    fn past_oldest(&self) -> Result<Place, LinkError>
+        ensures { MatchResult result
             (λ p. (514 ≤ self.now.place.count)
             × (p.head < 2100)
             × (p.count ≡ self.now.place.count - 514)
-            × (waiting self.now.ring p ≡ drop 514 (waiting self.now.ring self.now.place))) }
+            × (waiting self.now.ring p ≡ drop 514 (waiting self.now.ring self.now.place)))
+            (λ e. (self.now.place.count < 514) × (e ≡ LinkError.Empty)) }
     {
-        match queue::past(&self.ring, self.place, 514) {
-            Ok(place) => Some(place),
-            Err(_) => None,
-        }
+        queue::past(&self.ring, self.place, CELL_SIZE).map_err(|_| LinkError::Empty)
     }
 }
 
@@ -80,47 +84,30 @@ impl Link for ByteLink {
 
     ghost cells = { λ l. cut (l.place.count / 514) (waiting l.ring l.place) };
 
-    ghost least = { Prim.search rules };
+    ghost least = { λ l. l.few.0 };
 
-    ghost most = { Prim.search rules };
+    ghost most = { λ l. few_cells l.capacity l.few.1 };
 
-    ghost bounded = { λ l. omega (arith, length_cut (l.place.count / 514) (waiting l.ring l.place), l.sound.3) };
+    ghost bounded = { λ l. cut_bounded l.ring l.place l.capacity l.sound.3 };
 
-    ghost whole = { λ l.
-        let long = length-waiting l.ring l.place (omega (arith, l.sound.0, l.sound.1)) (omega (arith, l.sound.0, l.sound.3, l.few.1)) in
-        whole-cut (l.place.count / 514) (waiting l.ring l.place) (omega arith) };
+    ghost whole = { λ l. cut_whole l.ring l.place l.capacity l.sound.0 l.sound.1 l.sound.3 l.few.1 };
 
     fn put(&mut self, cell: &[u8]) -> Result<(), LinkError> {
-        if cell.len() != 514 {
-            return Err(LinkError::NotACell);
-        }
+        whole_cell(cell)?;
         if self.is_full() {
             return Err(LinkError::Full);
         }
-        match queue::put_all(&mut self.ring, self.place, cell) {
-            Ok(place) => {
-                self.place = place;
-                Ok(())
-            }
-            Err(_) => Err(LinkError::Full),
-        }
-    }
-
-    fn look(&self, cell: &mut [u8]) -> Result<(), LinkError> {
-        if cell.len() != 514 {
-            return Err(LinkError::NotACell);
-        }
-        if !self.copy_oldest(cell) {
-            return Err(LinkError::Empty);
-        }
+        self.place = queue::put_all(&mut self.ring, self.place, cell).map_err(|_| LinkError::Full)?;
         Ok(())
     }
 
+    fn look(&self, cell: &mut [u8]) -> Result<(), LinkError> {
+        whole_cell(cell)?;
+        self.copy_oldest(cell)
+    }
+
     fn drop_oldest(&mut self) -> Result<(), LinkError> {
-        let Some(place) = self.past_oldest() else {
-            return Err(LinkError::Empty);
-        };
-        self.place = place;
+        self.place = self.past_oldest()?;
         Ok(())
     }
 
@@ -129,6 +116,6 @@ impl Link for ByteLink {
     }
 
     fn clear(&mut self) {
-        self.place = Place { head: 0, count: 0 };
+        self.place = START;
     }
 }

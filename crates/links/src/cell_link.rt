@@ -1,19 +1,23 @@
 //! A link that keeps whole cells, in slots that are used round and round.
-ghost use Rattle.std.specs.Prelude.{◌≡◌, ℕ, ◌-◌, ◌<◌, ◌≤◌, true, List, [], length, drop, vec_len, MatchOption, MatchResult, slice_index_or};
+#![tactic(auto, using(crate::proofs::Slots::slots_of_cells))]
+
+ghost use Rattle.std.specs.Prelude.{◌≡◌, ℕ, ◌-◌, ◌<◌, ◌≤◌, true, List, [], length, drop, vec_len, MatchResult, slice_index_or, ◌≢◌};
 ghost use Rattle.queue.specs.Ring.{waiting};
 ghost use Rattle.links.specs.Lines.{Whole};
-ghost use Rattle.links.specs.Wholes.{waiting-bounded};
 ghost use Rattle.links.specs.Kinds.{takes, new_link_error};
-ghost use Rattle.std.proofs.Common.{rules, sym};
+ghost use Rattle.std.proofs.Common.{sym};
+ghost use Rattle.links.specs.Wholes.{some_below, waiting-bounded};
 
 use crate::fault::{LinkError, NewLinkError};
 use crate::link::Link;
+use crate::sizes::{CELL_SIZE, START, takes, whole_cell};
 use queue::Place;
 use std::alloc::Global;
 
+/// Slots and a place in them, and no `VecDeque`: a link's memory is fixed when it is made, and `queue` has the one code for both kinds.
 #[derive(Drop)]
 pub struct CellLink {
-    slots: Vec<[u8; 514]>,
+    slots: Vec<[u8; CELL_SIZE]>,
     place: Place,
     ghost sound: { (place.head < vec_len slots) × (place.count ≤ vec_len slots) × (vec_len slots ≤ 65535) },
     ghost whole: { Whole (waiting slots.items place) },
@@ -26,68 +30,45 @@ impl CellLink {
             (λ l. (takes 65535 capacity ≡ true) × (vec_len l.slots ≡ capacity) × (waiting l.slots.items l.place ≡ []))
             (λ e. e ≡ new_link_error 65535 capacity) }
     {
-        if capacity < 1 || capacity > 65535 {
+        if !takes(65_535, capacity) {
             return Err(NewLinkError::Capacity);
         }
-        match vec![in heap; [0u8; 514]; capacity] {
-            Ok(slots) => Ok(CellLink {
-                slots,
-                place: start(),
-            }),
-            Err(_) => Err(NewLinkError::Memory),
-        }
-    }
-
-    fn used(&self) -> usize
-        ensures { result ≡ self.now.place.count }
-    {
-        self.place.count
+        Ok(CellLink {
+            slots: vec![in heap; [0u8; CELL_SIZE]; capacity]?,
+            place: START,
+        })
     }
 }
 
-// The place where nothing waits.
-fn start() -> Place
-    ensures { (result.head ≡ 0) × (result.count ≡ 0) }
+// A cell as a record of its own.
+fn record_of(cell: &[u8]) -> Result<[u8; CELL_SIZE], LinkError>
+    ensures { MatchResult result (λ copy. (length cell.now ≡ 514) × (copy ≡ cell.now)) (λ e. (length cell.now ≢ 514) × (e ≡ LinkError.NotACell)) }
 {
-    Place { head: 0, count: 0 }
-}
-
-fn record_of(cell: &[u8]) -> [u8; 514]
-    requires { length cell.now ≡ 514 }
-    ensures { result ≡ cell.now }
-{
-    let mut record = [0u8; 514];
-    record.copy_from_slice(cell);
-    record
+    <[u8; CELL_SIZE]>::try_from(cell).map_err(|_| LinkError::NotACell)
 }
 
 // The oldest record, where one waits.
-fn first(slots: &[[u8; 514]], place: Place) -> Option<[u8; 514]>
+fn first(slots: &[[u8; CELL_SIZE]], place: Place) -> Result<[u8; CELL_SIZE], LinkError>
     requires { (place.head < length slots.now) × (place.count ≤ length slots.now) }
-    ensures { MatchOption result
-        (place.count ≡ 0)
-        (λ x. (0 < place.count) × ((d : List ℕ) → x ≡ slice_index_or (waiting slots.now place) 0 d)) }
+    ensures { MatchResult result
+        (λ x. (0 < place.count) × ((d : List ℕ) → x ≡ slice_index_or (waiting slots.now place) 0 d))
+        (λ e. (place.count ≡ 0) × (e ≡ LinkError.Empty)) }
 {
-    match queue::front(slots, place) {
-        Ok(record) => Some(record),
-        Err(_) => None,
-    }
+    queue::front(slots, place).map_err(|_| LinkError::Empty)
 }
 
-// The place once the oldest record is gone, where one waits.
-fn past_first(slots: &[[u8; 514]], place: Place) -> Option<Place>
+// The place once the oldest record is gone, where one waits. (As `past_oldest` of the other kind, which promises of whole cells what
+// the ring's ghost fields hold.)
+fn past_first(slots: &[[u8; CELL_SIZE]], place: Place) -> Result<Place, LinkError>
     requires { (place.head < length slots.now) × (place.count ≤ length slots.now) }
-    ensures { MatchOption result
-        (place.count ≡ 0)
+    ensures { MatchResult result
         (λ p. (0 < place.count)
         × (p.head < length slots.now)
         × (p.count ≡ place.count - 1)
-        × (waiting slots.now p ≡ drop 1 (waiting slots.now place))) }
+        × (waiting slots.now p ≡ drop 1 (waiting slots.now place)))
+        (λ e. (place.count ≡ 0) × (e ≡ LinkError.Empty)) }
 {
-    match queue::past(slots, place, 1) {
-        Ok(place) => Some(place),
-        Err(_) => None,
-    }
+    queue::past(slots, place, 1).map_err(|_| LinkError::Empty)
 }
 
 impl Link for CellLink {
@@ -95,51 +76,36 @@ impl Link for CellLink {
 
     ghost cells = { λ l. waiting l.slots.items l.place };
 
-    ghost least = { Prim.search rules };
+    ghost least = { λ l. some_below l.place.head (vec_len l.slots) l.sound.0 };
 
-    ghost most = { Prim.search rules };
+    ghost most = { λ l. l.sound.2 };
 
     ghost bounded = { λ l. waiting-bounded l.slots.items l.place (vec_len l.slots) (sym l.slots.ok.0) l.sound.0 l.sound.1 };
 
     ghost whole = { λ l. l.whole };
 
     fn put(&mut self, cell: &[u8]) -> Result<(), LinkError> {
-        if cell.len() != 514 {
-            return Err(LinkError::NotACell);
-        }
-        match queue::put(&mut self.slots, self.place, record_of(cell)) {
-            Ok(place) => {
-                self.place = place;
-                Ok(())
-            }
-            Err(_) => Err(LinkError::Full),
-        }
+        let record = record_of(cell)?;
+        self.place = queue::put(&mut self.slots, self.place, record).map_err(|_| LinkError::Full)?;
+        Ok(())
     }
 
     fn look(&self, cell: &mut [u8]) -> Result<(), LinkError> {
-        if cell.len() != 514 {
-            return Err(LinkError::NotACell);
-        }
-        let Some(record) = first(&self.slots, self.place) else {
-            return Err(LinkError::Empty);
-        };
-        cell.copy_from_slice(&record);
+        whole_cell(cell)?;
+        cell.copy_from_slice(&first(&self.slots, self.place)?);
         Ok(())
     }
 
     fn drop_oldest(&mut self) -> Result<(), LinkError> {
-        let Some(place) = past_first(&self.slots, self.place) else {
-            return Err(LinkError::Empty);
-        };
-        self.place = place;
+        self.place = past_first(&self.slots, self.place)?;
         Ok(())
     }
 
     fn count(&self) -> usize {
-        self.used()
+        self.place.count
     }
 
     fn clear(&mut self) {
-        self.place = start();
+        self.place = START;
     }
 }

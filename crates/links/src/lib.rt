@@ -7,6 +7,7 @@ mod fault;
 mod link;
 mod numbers;
 mod row;
+mod sizes;
 
 pub use byte_link::ByteLink;
 pub use cell_link::CellLink;

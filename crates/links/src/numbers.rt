@@ -5,6 +5,7 @@ ghost use Rattle.links.specs.Numbers.{link_error_number, link_fault_number};
 use crate::fault::{LinkError, LinkFault};
 
 impl LinkError {
+    /// The number of the refusal in docs/refusals.md.
     pub fn number(&self) -> u8
         ensures { result ≡ link_error_number self.now }
     {
@@ -18,6 +19,7 @@ impl LinkError {
 }
 
 impl LinkFault {
+    /// The number of the refusal in docs/refusals.md.
     pub fn number(&self) -> u8
         ensures { result ≡ link_fault_number self.now }
     {

@@ -40,6 +40,7 @@ fn beside_a_list<L: Link>(
     heap: Global,
 ) -> Result<(), Fail> {
     let mut all = Vec::new(heap);
+    // Counted by hand: how many go depends on the round, and after 255 the marks begin again.
     let mut gone: usize = 0;
     let mut mark: u8 = 0;
     for round in 0..60usize {
@@ -55,12 +56,10 @@ fn beside_a_list<L: Link>(
         assert!(rt; gone <= all.len());
         assert_eq!(rt; link.count(), all.len() - gone);
     }
-    for _ in 0..link.count() {
-        drop_marked(rt, link, &all, gone);
-        assert!(rt; gone < all.len());
-        gone += 1;
+    for place in gone..all.len() {
+        drop_marked(rt, link, &all, place);
     }
-    assert_eq!(rt; gone, all.len());
+    assert_eq!(rt; link.count(), 0);
     let mut cell = [7u8; 514];
     assert!(rt; link.look(&mut cell).is_err() && link.drop_oldest().is_err());
     assert_eq!(rt; cell[0], 7);

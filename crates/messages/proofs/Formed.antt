@@ -10,7 +10,7 @@ use Rattle.model.specs.Messages.{travels, streamless, well_formed}
 pub data-refused : (p : List ℕ) (e : CellError) → length p ≡ 509 → data_refusal p ≡ Some e → leb (length_of p) 498 ≡ false
 data-refused p e l h =
     ⊎_elim
-    (λ (fits : leb (length_of p) 498 ≡ true). let no = rw (eq-eqb (length p) 509 l, fits) at h in absurd (let z : ◌≡◌ {A = ℕ} 0 1 = cc in omega arith))
+    (λ (fits : leb (length_of p) 498 ≡ true). let no = rw (eq-eqb (length p) 509 l, fits) at h in cc)
     (λ (more : leb (length_of p) 498 ≡ false). more)
     (cases_Bool (leb (length_of p) 498))
 

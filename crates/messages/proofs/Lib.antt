@@ -1,4 +1,4 @@
+mod Results
 mod Known
 mod Formed
 mod Arriving
-pub mod Refusing

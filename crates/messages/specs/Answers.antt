@@ -13,10 +13,14 @@ abbrev pub unless_coincides : Option ℕ → Result Bool EndFault
 unless_coincides None = Ok true
 unless_coincides (Some j) = Err (fault_of 11 (j + 1))
 
--- refused, held for want of room, refused for a coincidence, or sent
+-- held for want of room, refused for a coincidence, or sent
+abbrev pub if_room : Bool → Option ℕ → Result Bool EndFault
+if_room room o = cond room (unless_coincides o) (Ok false)
+
+-- refused, or as the room says
 abbrev pub send_answer : Option Refusal → Bool → Option ℕ → Result Bool EndFault
 send_answer (Some f) room o = Err (fault_of f.number f.place)
-send_answer None room o = cond room (unless_coincides o) (Ok false)
+send_answer None room o = if_room room o
 
 -- the same where there is always room
 abbrev pub alone : Result Bool EndFault → Result (Unit {0}) EndFault

@@ -1,45 +1,28 @@
 -- What an end may send, and what it counts then.
-use Rattle.std.specs.Prelude.{◌≡◌, ℕ, ◌≤◌, Bool, false, ◌||◌, length, None, Option, nat_le}
-use Rattle.cell.specs.declared.command.Way.{Way}
+use Rattle.std.specs.Prelude.{◌≡◌, ℕ, ◌≤◌, false, length, None, Option}
 use Rattle.cell.specs.Commands.{command_byte}
 use Rattle.cell.specs.Payload.{Message}
-use Rattle.model.specs.Messages.{may_send, sendme}
-use Rattle.model.specs.Flows.{Flow, message_limit, posted, acknowledged}
-use Rattle.model.specs.Streams.{Streams, sends}
-use Rattle.model.specs.Calls.{sending_refusal, acknowledge_refusal}
-use Rattle.streams.specs.Views.{flow_seen, streams_seen}
+use Rattle.model.specs.Messages.{sendme}
+use Rattle.model.specs.Flows.{Flow, posted, acknowledged}
+use Rattle.streams.specs.Views.{streams_seen}
+use Rattle.messages.specs.Refusals.{Sending, message_refusal, sendme_refusal}
 use Rattle.messages.specs.declared.parts.Sender.{Sender}
 use Rattle.messages.specs.declared.parts.Cleared.{Cleared}
 
--- a sender stands for an end that sends way w to or from hop k, with these counts and streams
-pub record StandsFor (s : Sender) (w : Way) (k : ℕ) (f : Flow) (old : Bool) (t : Streams) : Type 0 where
-  pub way : s.way ≡ w
-  pub hop : s.hop ≡ k
-  pub flow : flow_seen s.flow ≡ f
-  pub worn : s.worn ≡ old
-  pub streams : streams_seen s.streams.now ≡ t
+-- what the rules see of a sender
+abbrev pub sending : Sender → Sending
+sending s = record { way = s.way; hop = s.hop; flow = s.flow; worn = s.worn; streams = streams_seen s.streams.now }
 
-abbrev pub exhausted : Sender → Bool
-exhausted s = nat_le message_limit (flow_seen s.flow).sent || s.worn
-
--- 5, 6, 8, 9 and 10
-abbrev pub message_refusal : Sender → Message → Option ℕ
-message_refusal s m =
-    sending_refusal (may_send s.way m.command) (sends s.way s.hop m.command m.stream (streams_seen s.streams.now)) (flow_seen s.flow) s.worn m
-
--- 12 and 10
-abbrev pub sendme_refusal : Sender → Option ℕ
-sendme_refusal s = acknowledge_refusal (flow_seen s.flow) s.worn
-
-pub record MaySend (s : Sender) (m : Message) (x : Cleared) : Type 0 where
-  pub unrefused : message_refusal s m ≡ None
+-- no rule forbids m, and f is counted for its hop once it is sent
+pub record Clears (s : Sending) (refusal : Option ℕ) (m : Message) (f : Flow) (x : Cleared) : Type 0 where
+  pub unrefused : refusal ≡ None
   pub command : command_byte x.command ≡ m.command
-  pub flow : flow_seen x.flow ≡ posted m.command (flow_seen s.flow)
+  pub flow : x.flow ≡ f
   pub fits : length m.content ≤ 498
   pub fresh : s.worn ≡ false
 
-pub record MayAcknowledge (s : Sender) (x : Cleared) : Type 0 where
-  pub unrefused : sendme_refusal s ≡ None
-  pub command : command_byte x.command ≡ sendme.command
-  pub flow : flow_seen x.flow ≡ posted sendme.command (acknowledged (flow_seen s.flow))
-  pub fresh : s.worn ≡ false
+abbrev pub MaySend : Sending → Message → Cleared → Type 0
+MaySend s m x = Clears s (message_refusal s m) m (posted m.command s.flow) x
+
+abbrev pub MayAcknowledge : Sending → Cleared → Type 0
+MayAcknowledge s x = Clears s (sendme_refusal s) sendme (posted sendme.command (acknowledged s.flow)) x

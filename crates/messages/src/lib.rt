@@ -8,7 +8,8 @@ mod heading;
 mod numbers;
 mod parts;
 mod sending;
+mod texts;
 
 pub use delivery::deliver;
 pub use faults::{EndError, EndFault, LENGTH};
-pub use parts::{Cleared, Sender};
+pub use parts::{Cleared, Delivery, Message, Sender};

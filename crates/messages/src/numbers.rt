@@ -1,16 +1,15 @@
 //! The numbers of the refusals.
 ghost use Rattle.std.specs.Prelude.{◌≡◌};
-ghost use Rattle.messages.specs.Faults.{fault_number, NumbersStand};
+ghost use Rattle.messages.specs.Faults.{error_number, fault_number, NumbersStand};
 
 use crate::faults::{EndError, EndFault};
 
-impl EndFault {
-    /// The number of the case, one definition for all of them.
-    pub fn number(&self) -> u8
-        ensures number { result ≡ fault_number self.now }
-        ensures stand { NumbersStand }
+impl EndError {
+    // One definition for all cases.
+    pub(crate) fn number(self) -> u8
+        ensures { result ≡ error_number self }
     {
-        match self.error {
+        match self {
             EndError::Cell(error) => error.number(),
             EndError::Command => 5,
             EndError::DataLength => 6,
@@ -24,5 +23,15 @@ impl EndFault {
             EndError::Malformed => 14,
             EndError::Overrun => 15,
         }
+    }
+}
+
+impl EndFault {
+    /// The number of the case.
+    pub fn number(&self) -> u8
+        ensures number { result ≡ fault_number self.now }
+        ensures stand { NumbersStand }
+    {
+        self.error.number()
     }
 }

@@ -1,7 +1,8 @@
 -- Writes, reads and steps of a ring, on the list of what waits.
-use Rattle.std.proofs.Common.{◌≡◌, ℕ, ◌+◌, ◌-◌, ◌<◌, ◌≤◌, List, [], ◌∷◌, ◌++◌, length, get_or, take, drop, set, sym, refl, ap, ◌∙◌, ⊎_elim, add-zero, zero-add, arith, take-add}
+use Rattle.std.proofs.Common.{◌≡◌, ℕ, ◌+◌, ◌-◌, ◌<◌, ◌≤◌, min, List, [], ◌∷◌, ◌++◌, length, get_or, take, drop, set, sym, refl, ap, ◌∙◌, ⊎_elim, add-zero, zero-add, arith, take-add}
 use lib.Seq.{take-set-lt}
-use Rattle.std.proofs.lemmas.List.{append-nil, append_assoc, length-take-le, length-drop, length-append, drop-set-add, take-set-le, drop-set-lt, set-append_left, set-append_right, take_more_set, take-append-le, drop-append-le, take_all, drop_all, drop-take, drop-drop, get_or-take, get_or_append_left, get_or-append_right, get_or-drop}
+use Rattle.std.proofs.Math.Seq.{take-append-add}
+use Rattle.std.proofs.lemmas.List.{append-nil, append_assoc, length-take-le, length-drop, length-append, drop-set-add, take-set-le, drop-set-lt, set-append_left, set-append_right, take_more_set, take-append-le, drop-append-le, take_all, drop_all, take-take, drop-take, drop-drop, get_or-take, get_or_append_left, get_or-append_right, get_or-drop}
 use Rattle.std.proofs.lemmas.Bool.{cases_lt, lt-ltb, le-ltb}
 use Rattle.queue.specs.declared.place.Place.{Place}
 use Rattle.queue.specs.Ring.{turned, waiting, slot_of}
@@ -9,9 +10,9 @@ use Rattle.queue.specs.Ring.{turned, waiting, slot_of}
 pub length-turned : {X : Type 0} (xs : List X) (h : ℕ) → h ≤ length xs → length (turned xs h) ≡ length xs
 length-turned xs h le = simp (length-append, length-drop, length-take-le h xs le) (omega arith)
 
-pub length-waiting : {X : Type 0} (xs : List X) (p : Place) → p.head ≤ length xs → p.count ≤ length xs → length (waiting xs p) ≡ p.count
+pub length_waiting : {X : Type 0} (xs : List X) (p : Place) → p.head ≤ length xs → p.count ≤ length xs → length (waiting xs p) ≡ p.count
 unfolding waiting
-length-waiting xs p le few =
+length_waiting xs p le few =
     let long = length-turned xs p.head le in
     length-take-le p.count (turned xs p.head) (omega arith)
 
@@ -59,12 +60,12 @@ module _ {X : Type 0} (xs : List X) (h i : ℕ) (lt : h < length xs) (room : i <
       (cases_lt i (length xs - h))
 
   -- a write behind the last
-  pub waiting-set : (x : X) → waiting (set xs (slot_of (length xs) h i) x) (record { head = h; count = i + 1 }) ≡ waiting xs (record { head = h; count = i }) ++ (x ∷ [])
+  pub waiting_set : (at : ℕ) (x : X) → at ≡ slot_of (length xs) h i → waiting (set xs at x) (record { head = h; count = i + 1 }) ≡ waiting xs (record { head = h; count = i }) ++ (x ∷ [])
   unfolding waiting
-  waiting-set x =
+  waiting_set at x is =
       let le : h ≤ length xs = omega arith in
       let long : i < length (turned xs h) = rw (length-turned xs h le) room in
-      ap (take (i + 1)) (set-turned x) ∙ take_more_set (turned xs h) i x long
+      ap (λ k. take (i + 1) (turned (set xs k x) h)) is ∙ ap (take (i + 1)) (set-turned x) ∙ take_more_set (turned xs h) i x long
 
 ---- the head, some slots on
 -- what it passes is turned to the end
@@ -89,8 +90,8 @@ waiting-on xs h n m le few =
     let room : m ≤ length (drop n (turned xs h)) = omega arith in
     ap (take m) (turned_on xs h n le) ∙ take-append-le m (drop n (turned xs h)) (take n (turned xs h)) room ∙ sym (drop-take n m (turned xs h))
 
-pub waiting-past : {X : Type 0} (xs : List X) (h n m : ℕ) → h < length xs → n + m ≤ length xs → take m (turned xs (slot_of (length xs) h n)) ≡ drop n (take (n + m) (turned xs h))
-waiting-past xs h n m lt few =
+past-slot : {X : Type 0} (xs : List X) (h n m : ℕ) → h < length xs → n + m ≤ length xs → take m (turned xs (slot_of (length xs) h n)) ≡ drop n (take (n + m) (turned xs h))
+past-slot xs h n m lt few =
     ⊎_elim
     (λ (near : n < length xs - h). ap (λ v. take m (turned xs v)) (slot-near (length xs) h n near) ∙ waiting-on xs h n m (omega arith) few)
     (λ (far : length xs - h ≤ n).
@@ -113,6 +114,35 @@ unfolding waiting
 get_or-waiting xs p i d lt few below =
     get_or-take p.count (turned xs p.head) i d below ∙ get_or-turned xs p.head i lt (omega arith) d
 
-pub waiting-first : {X : Type 0} (xs : List X) (p : Place) (d : X) → p.head < length xs → p.count ≤ length xs → 0 < p.count → get_or (waiting xs p) 0 d ≡ get_or xs p.head d
-waiting-first xs p d lt few pos =
+pub waiting_first : {X : Type 0} (xs : List X) (p : Place) (d : X) → p.head < length xs → p.count ≤ length xs → 0 < p.count → get_or (waiting xs p) 0 d ≡ get_or xs p.head d
+waiting_first xs p d lt few pos =
     get_or-waiting xs p 0 d lt few pos ∙ ap (λ n. get_or xs n d) (slot-near (length xs) p.head 0 (omega arith) ∙ add-zero p.head)
+
+-- the first n of what waits: some from the head on, and those that are left over from the start of the ring
+pub waiting_front : {X : Type 0} (xs oldest round : List X) (p : Place) (n m : ℕ) → p.head ≤ length xs → n ≤ p.count → oldest ≡ drop p.head xs → round ≡ take p.head xs → m ≡ min n (length oldest)
+    → take m oldest ++ take (n - m) round ≡ take n (waiting xs p)
+unfolding waiting
+waiting_front xs oldest round p n m le few front back is =
+    let turn : oldest ++ round ≡ turned xs p.head = cc in
+    let whole : take n (oldest ++ round) ≡ take n (waiting xs p) = ap (take n) turn ∙ sym (take-take n p.count (turned xs p.head) few) in
+    ⊎_elim
+    (λ (near : n < length oldest).
+    let same : m ≡ n = omega arith in
+    let none : n - m ≡ 0 = omega arith in
+    ap (λ k. take k oldest ++ take (n - m) round) same ∙ ap (λ k. take n oldest ++ take k round) none
+    ∙ append-nil (take n oldest) ∙ sym (take-append-le n oldest round (omega arith)) ∙ whole)
+    (λ (far : length oldest ≤ n).
+    let same : m ≡ length oldest = omega arith in
+    let sum : length oldest + (n - m) ≡ n = omega arith in
+    ap (λ k. take k oldest ++ take (n - m) round) same ∙ ap (λ v. v ++ take (n - m) round) (take_all (length oldest) oldest (omega arith))
+    ∙ sym (take-append-add oldest round (n - m)) ∙ ap (λ k. take k (oldest ++ round)) sum ∙ whole)
+    (cases_lt n (length oldest))
+
+-- what waits once the n oldest are gone
+pub waiting_past : {X : Type 0} (xs : List X) (p : Place) (at n : ℕ) → at ≡ slot_of (length xs) p.head n → p.head < length xs → p.count ≤ length xs → n ≤ p.count
+    → waiting xs (record { head = at; count = p.count - n }) ≡ drop n (waiting xs p)
+unfolding waiting
+waiting_past xs p at n is lt few le =
+    let left : ℕ = p.count - n in
+    let all : n + left ≡ p.count = omega arith in
+    ap (λ k. take left (turned xs k)) is ∙ past-slot xs p.head n left lt (omega arith) ∙ ap (λ k. drop n (take k (turned xs p.head))) all

@@ -3,14 +3,18 @@ use Rattle.std.specs.Prelude.{◌≡◌, ℕ, ◌<◌, ◌≤◌, Bool, cond, Li
 use Rattle.crypto.specs.declared.cipher.Cipher as cipher
 use Rattle.crypto.specs.declared.digest.Digest as digest
 use Rattle.cell.specs.Payload.{Message, blank}
-use Rattle.model.specs.Ends.{Rules, layer_limit, sealed}
+use Rattle.model.specs.Ends.{Rules, layer_limit, took, sealed}
 use Rattle.model.specs.Messages.{sendme}
-use Rattle.model.specs.Flows.{acknowledged}
+use Rattle.model.specs.Flows.{Flow, acknowledged}
+use Rattle.model.specs.Streams.{or_unchanged, relay_sends}
 use Rattle.model.specs.Circuit as model
 use Rattle.model.specs.Calls.{refusal, Outcome, stops, passes_on, delivers, relay_outcome, relay_removes, relay_passed, relay_took, relay_send_refusal, relay_sent, relay_adds, relay_acknowledge_refusal}
+use Rattle.cell.specs.declared.command.Way.TheVariants.{Backward}
+use Rattle.streams.specs.Views.{streams_seen}
 use Rattle.hops.specs.Views.{rules}
 use Rattle.messages.specs.declared.faults.EndFault.{EndFault}
 use Rattle.messages.specs.Faults.{fault_of}
+use Rattle.messages.specs.Refusals.{Sending}
 use Rattle.messages.specs.Answers.{placed, send_answer}
 use Rattle.relay.specs.declared.parts.Relay.{Relay}
 use Rattle.relay.specs.declared.parts.Arrival.{Arrival}
@@ -25,11 +29,11 @@ Open hop k = (k ≡ hop) × (0 < hop) × (hop ≤ 8)
 abbrev pub arrival : Bool → ℕ → Outcome → Result Arrival EndFault
 arrival room k (stops f) = Err (fault_of f.number f.place)
 arrival room k passes_on = Ok (cond room Passed Held)
-arrival room k (delivers m mark) = Ok (Delivered (k, m.command, m.stream, mark) (length m.content))
+arrival room k (delivers m mark) = Ok (Delivered ((k, m.command, m.stream, mark), length m.content))
 
 -- the same in numbers alone: all 0 where there is nothing for this relay
 abbrev pub in_numbers : Result Arrival EndFault → Result ((ℕ × ℕ × ℕ × ℕ) × ℕ) EndFault
-in_numbers (Ok (Delivered h n)) = Ok (h, n)
+in_numbers (Ok (Delivered handed)) = Ok handed
 in_numbers (Ok Passed) = Ok ((0, 0, 0, 0), 0)
 in_numbers (Ok Held) = Ok ((0, 0, 0, 0), 0)
 in_numbers (Err f) = Err f
@@ -43,6 +47,14 @@ abbrev pub relay_after : {K S : Type 0} → Rules K S → model.Relay K S → �
 relay_after R r k room y (stops f) = r
 relay_after R r k room y passes_on = cond room (relay_passed R r) r
 relay_after R r k room y (delivers m mark) = relay_took R r k y
+
+---- sending; m was sent, and f is counted now
+abbrev pub sent_by : {K S : Type 0} → Rules K S → model.Relay K S → ℕ → Flow → Message → model.Relay K S
+sent_by R r k f m = record { forward = r.forward; backward = took R r.backward (blank m); flow = f; streams = or_unchanged r.streams (relay_sends k m.command m.stream r.streams) }
+
+-- what the rules look at
+abbrev pub sender_of : {C D : Type 0} → Relay C D → Sending
+sender_of r = record { way = Backward; hop = r.hop; flow = r.flow; worn = nat_le layer_limit r.backward.layer; streams = streams_seen r.streams }
 
 module _ {C D : Type 0} (c : cipher.Ghosts C) (d : digest.Ghosts D) where
   abbrev pub bared : Relay C D → List ℕ → List ℕ

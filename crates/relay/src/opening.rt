@@ -22,13 +22,13 @@ impl<C: Cipher + Drop, D: Digest + Drop> Relay<C, D> {
         forward: End<C, D>,
         backward: End<C, D>,
     ) -> Result<Relay<C, D>, EndFault>
-        ensures { MatchResult result (λ e. Open hop e.hop × (e.last ≡ last) × (relay_seen D.Digest e ≡ record { forward = end_seen D.Digest forward; backward = end_seen D.Digest backward; flow = fresh_flow; streams = no_streams })) (λ f. (f ≡ fault_of 7 hop) × (Open hop hop → ⊥)) }
+        ensures { MatchResult result
+            (λ e. Open hop e.hop × (e.last ≡ last) × (relay_seen D.Digest e ≡ record { forward = end_seen D.Digest forward; backward = end_seen D.Digest backward; flow = fresh_flow; streams = no_streams }))
+            (λ f. (f ≡ fault_of 7 hop) × (Open hop hop → ⊥)) }
     {
+        // Not `(1..=8).contains(&hop)`, of whose answer the proof does not close.
         if hop == 0 || hop > 8 {
-            return Err(EndFault {
-                at: hop,
-                error: EndError::NoSuchHop,
-            });
+            return Err(EndError::NoSuchHop.at(hop));
         }
         Ok(Relay {
             hop,

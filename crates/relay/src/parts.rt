@@ -1,8 +1,10 @@
 //! A relay, and what it answers.
 use hops::End;
+use messages::Delivery;
 use streams::{Flow, Streams};
 
 /// The end that receives forward, the end that sends backward, what it counts, and its streams.
+// No `impl Model`: what a relay means has the digest's ghost State in it, which a model's Value cannot name. So it is with a client.
 #[derive(Drop)]
 pub struct Relay<C, D> {
     pub(crate) hop: u16,
@@ -14,10 +16,10 @@ pub struct Relay<C, D> {
 }
 
 /// What became of a payload that a relay received.
-#[derive(Clone, Copy)]
+#[derive(Clone, Copy, Debug, PartialEq, Eq)]
 pub enum Arrival {
-    /// For this relay: hop, command, stream and mark, and the length of the data, which begins at byte 11.
-    Delivered((u16, u8, u16, u8), usize),
+    /// For this relay.
+    Delivered(Delivery),
     /// To be passed on to the next relay.
     Passed,
     /// To be passed on, and the host had no room for it: nothing changed.

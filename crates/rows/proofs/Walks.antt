@@ -1,12 +1,14 @@
 -- Walks along a row of ends, place by place: what loops over a slice of ends give.
 use Rattle.std.proofs.Common.{◌≡◌, ℕ, zero, suc, ◌+◌, ◌<◌, ◌≤◌, Bool, true, false, cond, not, ◌||◌, ltb, leb, List, [], ◌∷◌, map, length, get_or, drop, set, Some, None, Option, sym, refl, ap, ◌∙◌, arith}
-use Rattle.std.proofs.lemmas.Bool.{or_parts, and_left, and_right, and_from, not_from_true, not_from_false, lt-ltb, le-ltb, eq-eqb}
+use Rattle.std.proofs.lemmas.Bool.{or_parts, and_from, not_from_false, lt-ltb, eq-eqb}
 use Rattle.std.proofs.lemmas.Bool.Decides.{nat_tests}
 use Rattle.std.proofs.lemmas.List.{get_or-map, drop_more, length-map}
+use Rattle.std.specs.List.{position, position_or_len}
 use Rattle.model.specs.Lists.{nth}
 use Rattle.model.specs.Ends.{Rules, End, layer_limit, recognises, further, worn_out, worn_at, moved, moved_to, advanced, recognised_at, unwrapped}
-use Rattle.rows.specs.Rows.{advanced_to, can_advance, up_to, tried, found_at, seek_left}
-use Rattle.hops.specs.Rows.{took_to}
+pub use Rattle.rows.specs.Rows.{up_to}
+use Rattle.rows.specs.Rows.{advanced_to, can_advance, tried, found_at, seek_left}
+use Rattle.hops.specs.Views.{took_to}
 
 -- an element that code has read
 pub nth_read : {A B : Type 0} (f : A → B) (xs : List A) (i : ℕ) (x : A) → i < length xs → x ≡ get_or xs i x → nth (map f xs) i ≡ Some (f x)
@@ -46,18 +48,24 @@ up-to-more true o d = grind (arith, nat_tests)
 up-to-more false None d = refl
 up-to-more false (Some k) d = grind (arith, nat_tests)
 
+first-of : (t : Bool) (p n : ℕ) → cond (ltb (cond (not t) (1 + p) 0) (suc n)) (Some (cond (not t) (1 + p) 0)) None ≡ cond t (Some 0) (further (cond (ltb p n) (Some p) None))
+first-of true p n = grind (arith, nat_tests)
+first-of false p n = grind (arith, nat_tests)
+
 module _ {K S : Type 0} where
   ---- worn out
   -- an end up to d is worn out exactly if the first such end is not past d
-  pub worn-up-to : (es : List (End K S)) (d : ℕ) → up_to d (worn_at es) ≡ worn_out es d
-  worn-up-to [] d = refl
-  worn-up-to (e ∷ es) zero = up-to-none (leb layer_limit e.layer) (worn_at es)
-  worn-up-to (e ∷ es) (suc d) = up-to-more (leb layer_limit e.layer) (worn_at es) d ∙ ap (λ b. leb layer_limit e.layer || b) (worn-up-to es d)
+  pub worn_up_to : (es : List (End K S)) (d : ℕ) → worn_out es d ≡ up_to d (worn_at es)
+  worn_up_to [] d = refl
+  worn_up_to (e ∷ es) zero = sym (up-to-none (leb layer_limit e.layer) (worn_at es))
+  worn_up_to (e ∷ es) (suc d) = ap (λ b. leb layer_limit e.layer || b) (worn_up_to es d) ∙ sym (up-to-more (leb layer_limit e.layer) (worn_at es) d)
 
-  pub worn-at-step : (es : List (End K S)) (i : ℕ) (e : End K S) (t : Bool) → drop i es ≡ e ∷ drop (i + 1) es → leb layer_limit e.layer ≡ t
-      → past i (worn_at (drop i es)) ≡ cond t (Some i) (past (i + 1) (worn_at (drop (i + 1) es)))
-  worn-at-step es i e true h w = let z : i + 0 ≡ i = omega arith in rw (h, w) (past-place i 0 ∙ ap Some z)
-  worn-at-step es i e false h w = rw (h, w) (past-further i (worn_at (drop (i + 1) es)))
+  -- the first end that is worn out, as a search finds it
+  pub worn-position : {A : Type 0} (f : A → End K S) (xs : List A) → position (λ x. leb layer_limit (f x).layer) xs ≡ worn_at (map f xs)
+  worn-position f [] = refl
+  worn-position f (x ∷ xs) =
+      first-of (leb layer_limit (f x).layer) (position_or_len (λ y. leb layer_limit (f y).layer) xs) (length xs)
+      ∙ ap (λ o. cond (leb layer_limit (f x).layer) (Some 0) (further o)) (worn-position f xs)
 
   -- an end up to d, where none is worn out
   pub fresh_at : (es : List (End K S)) (d i : ℕ) (e : End K S) → i ≤ d → worn_out es d ≡ false → nth es i ≡ Some e → leb layer_limit e.layer ≡ false
@@ -68,12 +76,6 @@ module _ {K S : Type 0} where
   fresh_at (x ∷ es) (suc d) (suc i) e l t h = fresh_at es d i e (omega arith) (or_parts (leb layer_limit x.layer) (worn_out es d) t).1 h
 
   ---- moving on
-  pub cannot-past : (es : List (End K S)) (d : ℕ) → length es ≤ d → can_advance es d ≡ false
-  cannot-past es d l = and_left (ltb d (length es)) (not (worn_out es d)) (le-ltb d (length es) l)
-
-  pub cannot-worn : (es : List (End K S)) (d : ℕ) → worn_out es d ≡ true → can_advance es d ≡ false
-  cannot-worn es d w = and_right (ltb d (length es)) (not (worn_out es d)) (not_from_true (worn_out es d) w)
-
   pub can-advance : (es : List (End K S)) (d : ℕ) → d < length es → worn_out es d ≡ false → can_advance es d ≡ true
   can-advance es d l w = and_from (ltb d (length es)) (not (worn_out es d)) (lt-ltb d (length es) l) (not_from_false (worn_out es d) w)
 

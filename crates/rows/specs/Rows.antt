@@ -1,7 +1,7 @@
 -- Rows of ends: how they move on, and what seeking answers and leaves.
 use Rattle.std.specs.Prelude.{ℕ, zero, suc, ◌+◌, ◌<◌, Bool, false, cond, not, ◌&&◌, List, [], ◌∷◌, length, Some, None, Option, ◌==◌, nat_le, nat_lt}
 use Rattle.model.specs.Ends.{Rules, End, moved, worn_out, recognised_at, unwrapped}
-use Rattle.hops.specs.Rows.{took_to}
+use Rattle.hops.specs.Views.{took_to}
 
 module _ {K S : Type 0} where
   -- the ends up to place d used a layer each, and the digest there is s now

@@ -2,5 +2,7 @@
 #![tactic(auto)]
 
 mod row;
+#[cfg(test)]
+mod tests;
 
-pub use row::{advance, seek, worn_at, worn_out};
+pub use row::Row;

@@ -1,107 +1,89 @@
 -- The stream rules, command by command.
-use Rattle.std.proofs.Common.{◌≡◌, ℕ, Bool, true, false, cond, not, ◌&&◌, eqb, ltb, ◌⊎◌, List, is_some, Some, None, Option, refl, inl, inr, arith}
+use Rattle.std.proofs.Common.{◌≡◌, ℕ, true, false, cond, not, eqb, ◌⊎◌, List, [], ◌∷◌, is_some, Some, None, Option, refl, inl, inr}
 use Rattle.cell.specs.Commands.{command_byte}
 use Rattle.cell.specs.declared.command.Command.{Command}
 use Rattle.cell.specs.declared.command.Command.TheVariants.{Begin, Data, End, Connected, Sendme, Drop}
+use Rattle.cell.specs.declared.command.Way.{Way}
+use Rattle.cell.specs.declared.command.Way.TheVariants.{Forward, Backward}
 use Rattle.model.specs.Messages.{streamless}
-use Rattle.streams.specs.Begins.{has_room, may_begin, begun_by, may_start, started_by}
-use Rattle.model.specs.Streams.{Streams, StreamRecord, is_recorded, applied, with_records, client_sends, relay_sends, client_receives, relay_receives, or_unchanged, mark_of, is_broken}
+use Rattle.model.specs.Streams.{Streams, State, begun, opened, StreamRecord, is_of, in_front, changed, forbidden, effect, applied, with_records, sends, receives, client_sends, relay_sends, client_receives, relay_receives, mark_of, is_broken}
+use Rattle.streams.specs.Begins.{client_begins, relay_begins}
 
-module _ (k : ℕ) (n : ℕ) (s : Streams) where
-  -- SENDME and DROP
-  pub sends-alone : (c : Command) → (c ≡ Sendme) ⊎ (c ≡ Drop) → relay_sends k (command_byte c) n s ≡ cond (eqb n 0) (Some s) None
-  unfolding relay_sends streamless
-  sends-alone c (inl e) = rw e refl
-  sends-alone c (inr e) = rw e refl
+-- no record lets a BEGIN pass
+not-begun-again : (s : State) → effect s 1 ≡ forbidden
+not-begun-again begun = refl
+not-begun-again opened = refl
 
-  pub receives-alone : (c : Command) → (c ≡ Sendme) ⊎ (c ≡ Drop) → client_receives k (command_byte c) n s ≡ Some s
-  unfolding client_receives streamless
-  receives-alone c (inl e) = rw e refl
-  receives-alone c (inr e) = rw e refl
+no-begin : (n k : ℕ) (rs : List StreamRecord) → applied 1 n k rs ≡ None
+no-begin n k [] = refl
+no-begin n k (r ∷ rs) =
+    let not_here = not-begun-again r.state in
+    let not_later = no-begin n k rs in
+    elim (is_of n k r) as (λ b. cond b (changed r rs (effect r.state 1)) (in_front r (applied 1 n k rs)) ≡ None)
+    [ true ↦ rw not_here refl | false ↦ rw not_later refl ]
 
-  -- the commands of a record
-  pub sends-on-record : (c : Command) → (c ≡ Sendme → ⊥) → (c ≡ Drop → ⊥) → relay_sends k (command_byte c) n s ≡ with_records s (applied (command_byte c) n k s.records)
-  unfolding relay_sends streamless
-  sends-on-record Begin ne nor = refl
-  sends-on-record Data ne nor = refl
-  sends-on-record End ne nor = refl
-  sends-on-record Connected ne nor = refl
-  sends-on-record Sendme ne nor = absurd (ne refl)
-  sends-on-record Drop ne nor = absurd (nor refl)
-
-  pub receives-on-record : (c : Command) → (c ≡ Sendme → ⊥) → (c ≡ Drop → ⊥) → client_receives k (command_byte c) n s ≡ with_records s (applied (command_byte c) n k s.records)
-  unfolding client_receives streamless
-  receives-on-record Begin ne nor = refl
-  receives-on-record Data ne nor = refl
-  receives-on-record End ne nor = refl
-  receives-on-record Connected ne nor = refl
-  receives-on-record Sendme ne nor = absurd (ne refl)
-  receives-on-record Drop ne nor = absurd (nor refl)
-
-  -- BEGIN
-  pub client-begins : (c : Command) → c ≡ Begin → client_sends k (command_byte c) n s ≡ cond (may_begin n s) (Some (begun_by k n s)) None
+module _ (w : Way) (c : Command) (k n : ℕ) (s : Streams) where
+  -- BEGIN, which alone makes the two ends differ
+  pub sends_begin : c ≡ Begin → w ≡ Forward → sends w k (command_byte c) n s ≡ client_begins k n s
   unfolding client_sends
-  client-begins c e = rw e refl
+  sends_begin e f = rw (e, f) refl
 
-  pub relay-begins : (c : Command) → c ≡ Begin → relay_receives k (command_byte c) n s ≡ cond (may_start n s) (Some (started_by k n s)) None
+  pub sends_no_begin : c ≡ Begin → w ≡ Backward → sends w k (command_byte c) n s ≡ None
+  unfolding relay_sends streamless
+  sends_no_begin e f = let none = no-begin n k s.records in rw (e, f, none) refl
+
+  pub receives_begin : c ≡ Begin → w ≡ Forward → receives w k (command_byte c) n s ≡ relay_begins k n s
   unfolding relay_receives
-  relay-begins c e = rw e refl
+  receives_begin e f = rw (e, f) refl
 
-  -- only BEGIN makes client and relay differ
-  pub client-sends-other : (c : Command) → (c ≡ Begin → ⊥) → client_sends k (command_byte c) n s ≡ relay_sends k (command_byte c) n s
-  unfolding client_sends relay_sends
-  client-sends-other Begin ne = absurd (ne refl)
-  client-sends-other Data ne = refl
-  client-sends-other End ne = refl
-  client-sends-other Connected ne = refl
-  client-sends-other Sendme ne = refl
-  client-sends-other Drop ne = refl
+  pub receives_no_begin : c ≡ Begin → w ≡ Backward → receives w k (command_byte c) n s ≡ None
+  unfolding client_receives streamless
+  receives_no_begin e f = let none = no-begin n k s.records in rw (e, f, none) refl
 
-  pub relay-receives-other : (c : Command) → (c ≡ Begin → ⊥) → relay_receives k (command_byte c) n s ≡ client_receives k (command_byte c) n s
-  unfolding relay_receives client_receives
-  relay-receives-other Begin ne = absurd (ne refl)
-  relay-receives-other Data ne = refl
-  relay-receives-other End ne = refl
-  relay-receives-other Connected ne = refl
-  relay-receives-other Sendme ne = refl
-  relay-receives-other Drop ne = refl
+-- SENDME and DROP belong to no stream, the others to a record
+module _ (k n : ℕ) (s : Streams) where
+  pub sends_alone : (w : Way) (c : Command) → (c ≡ Sendme) ⊎ (c ≡ Drop) → sends w k (command_byte c) n s ≡ cond (eqb n 0) (Some s) None
+  unfolding client_sends relay_sends streamless
+  sends_alone Forward c (inl e) = rw e refl
+  sends_alone Forward c (inr e) = rw e refl
+  sends_alone Backward c (inl e) = rw e refl
+  sends_alone Backward c (inr e) = rw e refl
 
--- a rule that is one test
-pub if-so : (b : Bool) (t : Streams) → true ≡ b → cond b (Some t) None ≡ Some t
-if-so b t e = rw (← e) refl
+  pub receives_alone : (w : Way) (c : Command) → (c ≡ Sendme) ⊎ (c ≡ Drop) → receives w k (command_byte c) n s ≡ Some s
+  unfolding relay_receives client_receives streamless
+  receives_alone Forward c (inl e) = rw e refl
+  receives_alone Forward c (inr e) = rw e refl
+  receives_alone Backward c (inl e) = rw e refl
+  receives_alone Backward c (inr e) = rw e refl
 
-pub if-not : (b : Bool) (t : Streams) → false ≡ b → cond b (Some t) None ≡ None
-if-not b t e = rw (← e) refl
+  pub sends_on_record : (w : Way) (c : Command) → (c ≡ Connected) ⊎ ((c ≡ Data) ⊎ (c ≡ End)) → sends w k (command_byte c) n s ≡ with_records s (applied (command_byte c) n k s.records)
+  unfolding client_sends relay_sends streamless
+  sends_on_record Forward c (inl e) = rw e refl
+  sends_on_record Forward c (inr (inl e)) = rw e refl
+  sends_on_record Forward c (inr (inr e)) = rw e refl
+  sends_on_record Backward c (inl e) = rw e refl
+  sends_on_record Backward c (inr (inl e)) = rw e refl
+  sends_on_record Backward c (inr (inr e)) = rw e refl
 
-last-holds : (a b : Bool) → true ≡ (a && b) → true ≡ b
-last-holds true b e = e
-last-holds false b e = absurd (let z : ◌≡◌ {A = ℕ} 0 1 = cc in omega arith)
-
-pub passes-if : (b : Bool) (t : Streams) → b ≡ not (is_broken (cond b (Some t) None))
-passes-if true t = refl
-passes-if false t = refl
-
-pub mark-if : (b : Bool) (t : Streams) → cond b 0 1 ≡ mark_of (cond b (Some t) None)
-mark-if true t = refl
-mark-if false t = refl
-
-pub unchanged-if : (b : Bool) (s : Streams) → s ≡ or_unchanged s (cond b (Some s) None)
-unchanged-if true s = refl
-unchanged-if false s = refl
-
--- BEGIN is recorded only where a record is free
-pub room-to-begin : (n : ℕ) (s : Streams) → true ≡ may_begin n s → true ≡ has_room s
-room-to-begin n s = last-holds (ltb s.highest n) (has_room s)
-
-pub room-to-start : (n : ℕ) (s : Streams) → true ≡ may_start n s → true ≡ has_room s
-room-to-start n s e =
-    last-holds (not (is_recorded n s.records)) (has_room s) (last-holds (not (eqb n 0)) (not (is_recorded n s.records) && has_room s) e)
+  pub receives_on_record : (w : Way) (c : Command) → (c ≡ Connected) ⊎ ((c ≡ Data) ⊎ (c ≡ End)) → receives w k (command_byte c) n s ≡ with_records s (applied (command_byte c) n k s.records)
+  unfolding relay_receives client_receives streamless
+  receives_on_record Forward c (inl e) = rw e refl
+  receives_on_record Forward c (inr (inl e)) = rw e refl
+  receives_on_record Forward c (inr (inr e)) = rw e refl
+  receives_on_record Backward c (inl e) = rw e refl
+  receives_on_record Backward c (inr (inl e)) = rw e refl
+  receives_on_record Backward c (inr (inr e)) = rw e refl
 
 -- a rule that looks for a record
-pub passes-on-record : (s : Streams) (o : Option (List StreamRecord)) → is_some o ≡ not (is_broken (with_records s o))
-passes-on-record s None = refl
-passes-on-record s (Some rs) = refl
+pub passes_on_record : (s : Streams) (o : Option (List StreamRecord)) → not (is_broken (with_records s o)) ≡ is_some o
+passes_on_record s None = refl
+passes_on_record s (Some rs) = refl
 
-pub mark-on-record : (s : Streams) (o : Option (List StreamRecord)) → cond (is_some o) 0 1 ≡ mark_of (with_records s o)
-mark-on-record s None = refl
-mark-on-record s (Some rs) = refl
+pub mark_from : (o : Option Streams) → mark_of o ≡ cond (not (is_broken o)) 0 1
+mark_from None = refl
+mark_from (Some t) = refl
+
+-- what a rule says of each command
+pub ruleset rule_of_sending = (sends_begin, sends_no_begin, sends_alone, sends_on_record, passes_on_record)
+
+pub ruleset rule_of_receiving = (receives_begin, receives_no_begin, receives_alone, receives_on_record, passes_on_record, mark_from)

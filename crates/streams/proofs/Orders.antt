@@ -3,9 +3,11 @@ use Rattle.std.proofs.Common.{◌≡◌, ℕ, ◌<◌, ◌≤◌, Bool, true, fa
 use Rattle.std.specs.List.{AllByRecursion}
 use Rattle.std.proofs.ByRecursion.{All-push, All-weaker}
 use Rattle.std.proofs.lemmas.Bool.Decides.{nat_tests}
-use Rattle.model.specs.Messages.{streamless}
-use Rattle.model.specs.Streams.{Streams, StreamRecord, begun, Effect, becomes, frees, forbidden, is_of, effect, changed, in_front, applied, is_recorded, with_records, started, capacity, or_unchanged, client_sends, client_receives}
-use Rattle.streams.specs.Order.{EachOnce, Ascending, ClosingOrder, KeepsClosingOrder}
+use Rattle.model.specs.Streams.{Streams, StreamRecord, begun, Effect, becomes, frees, forbidden, is_of, effect, changed, in_front, applied, is_recorded, with_records, started, capacity, or_unchanged}
+use Rattle.cell.specs.declared.command.Way.{Way}
+use Rattle.cell.specs.declared.command.Way.TheVariants.{Forward, Backward}
+use Rattle.streams.specs.Begins.{client_begins}
+use Rattle.streams.specs.Order.{EachOnce, Ascending, ClosingOrder, KeepsClosingOrder, KeptBySending, KeptByReceiving}
 
 abbrev SomeHas : (List StreamRecord → Type 0) → Option (List StreamRecord) → Type 0
 SomeHas P o = IfSome o P
@@ -85,25 +87,17 @@ begin-keeps n k s true true e was =
     let most = All-weaker (λ r. r.number < n) (λ r. r.number ≤ n) (λ r h. omega arith) s.records below in
     closing-order (record { records = started n k s.records; highest = n }) (ascending-push s.records x below was.ascending) (All-push (λ r. r.number ≤ n) s.records x most (omega arith))
 
-sends-keep : (k c n : ℕ) (s : Streams) → KeepsClosingOrder s (or_unchanged s (client_sends k c n s))
-unfolding client_sends
-sends-keep k c n s =
-    elim (eqb c 1) as (λ b. KeepsClosingOrder s (or_unchanged s (cond b (cond (ltb s.highest n && ltb (length s.records) capacity) (Some (record { records = started n k s.records; highest = n })) None) (cond (streamless c) (cond (eqb n 0) (Some s) None) (with_records s (applied c n k s.records)))))) [
-      | true ↦ begin-keeps n k s (ltb s.highest n) (ltb (length s.records) capacity) refl
-      | false ↦ elim (streamless c) as (λ b. KeepsClosingOrder s (or_unchanged s (cond b (cond (eqb n 0) (Some s) None) (with_records s (applied c n k s.records))))) [
-        | true ↦ elim (eqb n 0) as (λ b. KeepsClosingOrder s (or_unchanged s (cond b (Some s) None))) [ true ↦ λ was. was | false ↦ λ was. was ]
-        | false ↦ on-record-keeps c n k s
-      ]
-    ]
+pub change_keeps : (c n k : ℕ) (s t : Streams) → t ≡ or_unchanged s (with_records s (applied c n k s.records)) → KeepsClosingOrder s t
+change_keeps c n k s t e = rw e (on-record-keeps c n k s)
 
-receives-keep : (k c n : ℕ) (s : Streams) → KeepsClosingOrder s (or_unchanged s (client_receives k c n s))
-unfolding client_receives
-receives-keep k c n s =
-    elim (streamless c) as (λ b. KeepsClosingOrder s (or_unchanged s (cond b (Some s) (with_records s (applied c n k s.records)))))
-    [ true ↦ λ was. was | false ↦ on-record-keeps c n k s ]
+pub begin_keeps : (k n : ℕ) (s t : Streams) → t ≡ or_unchanged s (client_begins k n s) → KeepsClosingOrder s t
+begin_keeps k n s t e = rw e (begin-keeps n k s (ltb s.highest n) (ltb (length s.records) capacity) refl)
 
-pub sends-in-order : (k c n : ℕ) (s t : Streams) → t ≡ or_unchanged s (client_sends k c n s) → KeepsClosingOrder s t
-sends-in-order k c n s t e = rw e (sends-keep k c n s)
+-- what keeps the client's closing order does so whichever end it is
+pub kept_by_sending : (w : Way) (s t : Streams) → KeepsClosingOrder s t → KeptBySending w s t
+kept_by_sending Forward s t kept = kept
+kept_by_sending Backward s t kept = tt
 
-pub receives-in-order : (k c n : ℕ) (s t : Streams) → t ≡ or_unchanged s (client_receives k c n s) → KeepsClosingOrder s t
-receives-in-order k c n s t e = rw e (receives-keep k c n s)
+pub kept_by_receiving : (w : Way) (s t : Streams) → KeepsClosingOrder s t → KeptByReceiving w s t
+kept_by_receiving Forward s t kept = tt
+kept_by_receiving Backward s t kept = kept

@@ -1,18 +1,18 @@
 -- A record at a place of the array, and the model's list of records.
-use Rattle.std.proofs.Common.{◌≡◌, ℕ, zero, suc, ◌+◌, ◌-◌, ◌<◌, ◌≤◌, true, false, cond, ◌&&◌, eqb, ltb, List, [], ◌∷◌, map, length, get_or, take, drop, set, is_some, Some, None, Option, refl, ap, ◌∙◌, add-one, arith}
-use Rattle.std.proofs.lemmas.List.{at_drop_more, length-map, length-take-le, length-drop, map-append, map-set, take-map, drop-map, take-set, take-take, drop-take, drop-set-lt, get_or-map, get_or-take, set-get_or}
+use Rattle.std.proofs.Common.{◌≡◌, ℕ, zero, suc, ◌+◌, ◌-◌, ◌<◌, ◌≤◌, true, false, cond, ◌||◌, eqb, List, [], ◌∷◌, map, length, get_or, take, drop, set, is_some, Some, None, Option, sym, refl, ap, ◌∙◌, add-one, arith}
+use Rattle.std.proofs.lemmas.List.{length-map, length-take-le, length-drop, map-append, map-set, take-map, drop-map, take-set, take-take, drop-take, drop-set-lt, get_or-map, get_or-take, set-get_or}
 use Rattle.std.proofs.lemmas.List.Edits.{take-paste}
 use lib.Seq.{paste, take-set-lt}
 use Rattle.model.specs.Lists.{nth}
 use Rattle.streams.specs.declared.types.Streams.{Streams}
 use Rattle.std.proofs.lemmas.Bool.Decides.{nat_tests}
-use Rattle.std.specs.List.{remove}
+use Rattle.std.specs.List.{remove, list_any}
 use Rattle.model.specs.Streams as model
 use Rattle.model.specs.Streams.{applied, changed, in_front, is_of, is_recorded, effect, becomes, frees, forbidden, with_records, or_unchanged}
 use Rattle.streams.specs.declared.types.StreamRecord.{StreamRecord}
 use Rattle.streams.specs.declared.types.Effect.TheVariants.{Freed, Forbidden}
 use Rattle.streams.specs.Views.{blank, state_seen, record_seen, records_seen, streams_seen}
-use Rattle.streams.specs.Begins.{has_room, may_begin}
+use Rattle.streams.specs.Begins.{has_room}
 use Rattle.streams.specs.Effects.{effect_seen, after_effect}
 
 -- the records once the one at place i, r, had an effect
@@ -68,37 +68,37 @@ nth_past [] i le = refl
 nth_past (r ∷ rs) zero le = absurd (omega arith)
 nth_past (r ∷ rs) (suc i) le = nth_past rs i (omega arith)
 
-pub may-begin-seen : (n : ℕ) (s : Streams) → (ltb s.highest n && ltb s.count 32) ≡ may_begin n (streams_seen s)
+pub room_seen : (s : Streams) → true ≡ has_room (streams_seen s) → s.count < 32
 unfolding streams_seen
-may-begin-seen n s = rw (length_seen s) refl
+room_seen s e = let whole = length_seen s in grind (arith, nat_tests)
 
-pub room-seen : (s : Streams) → true ≡ has_room (streams_seen s) → s.count < 32
-unfolding streams_seen
-room-seen s e = let whole = length_seen s in grind (arith, nat_tests)
-
--- the records from place i on
-module _ (n : ℕ) (xs : List StreamRecord) (m i : ℕ) (lt : i < m) (le : m ≤ length xs) where
-  recorded-from : is_recorded n (map record_seen (drop i (take m xs))) ≡ cond (eqb (get_or xs i blank).number n) true (is_recorded n (map record_seen (drop (i + 1) (take m xs))))
-  recorded-from =
-      at_drop_more (λ (rs : List StreamRecord). is_recorded n (map record_seen rs)) (take m xs) i blank (simp length-take-le (omega arith))
-      ∙ ap (λ (r : StreamRecord). cond (eqb r.number n) true (is_recorded n (map record_seen (drop (i + 1) (take m xs))))) (get_or-take m xs i blank lt)
-
-  pub recorded-here : (get_or xs i blank).number ≡ n → is_recorded n (map record_seen (drop i (take m xs))) ≡ true
-  recorded-here e = let test : eqb (get_or xs i blank).number n ≡ true = grind (arith, nat_tests) in recorded-from ∙ ap (λ b. cond b true (is_recorded n (map record_seen (drop (i + 1) (take m xs))))) test
-
-  pub recorded-later : ((get_or xs i blank).number ≡ n → ⊥) → is_recorded n (map record_seen (drop i (take m xs))) ≡ is_recorded n (map record_seen (drop (i + 1) (take m xs)))
-  recorded-later ne = let test : eqb (get_or xs i blank).number n ≡ false = grind (arith, nat_tests) in recorded-from ∙ ap (λ b. cond b true (is_recorded n (map record_seen (drop (i + 1) (take m xs))))) test
+-- whether a number is recorded, asked of the code's records
+pub recorded_any : (n : ℕ) (rs : List StreamRecord) → list_any (λ r. eqb r.number n) rs ≡ is_recorded n (map record_seen rs)
+recorded_any n [] = refl
+recorded_any n (r ∷ rs) = elim (eqb r.number n) as (λ b. (b || list_any (λ r. eqb r.number n) rs) ≡ cond b true (is_recorded n (map record_seen rs))) [ true ↦ refl | false ↦ recorded_any n rs ]
 
 -- whether an effect lets the command pass
-pub forbidden-at : (rs : List model.StreamRecord) (i : ℕ) (r : model.StreamRecord) (e : model.Effect) → Forbidden ≡ effect_seen e → false ≡ is_some (changed_at rs i r e)
-forbidden-at rs i r (becomes s) is = absurd (let z : ◌≡◌ {A = ℕ} 0 1 = cc in omega arith)
-forbidden-at rs i r frees is = absurd (let z : ◌≡◌ {A = ℕ} 0 1 = cc in omega arith)
+forbidden-at : (rs : List model.StreamRecord) (i : ℕ) (r : model.StreamRecord) (e : model.Effect) → Forbidden ≡ effect_seen e → false ≡ is_some (changed_at rs i r e)
+forbidden-at rs i r (becomes s) is = cc
+forbidden-at rs i r frees is = cc
 forbidden-at rs i r forbidden is = refl
 
-pub allowed_at : (rs : List model.StreamRecord) (i : ℕ) (r : model.StreamRecord) (e : model.Effect) → (effect_seen e ≡ Forbidden → ⊥) → true ≡ is_some (changed_at rs i r e)
+allowed_at : (rs : List model.StreamRecord) (i : ℕ) (r : model.StreamRecord) (e : model.Effect) → (effect_seen e ≡ Forbidden → ⊥) → true ≡ is_some (changed_at rs i r e)
 allowed_at rs i r (becomes s) ne = refl
 allowed_at rs i r frees ne = refl
 allowed_at rs i r forbidden ne = absurd (ne refl)
+
+-- whether some record lets the command pass, from the place of the stream's record
+pub allowed_none : (c n k : ℕ) (s : Streams) → ((j : ℕ) → j < s.count → Other c n k s.records j) → false ≡ is_some (applied c n k (records_seen s))
+allowed_none c n k s before = sym (ap is_some (applied-none c n k s.records s.count before))
+
+pub allowed_some : (c n k : ℕ) (s : Streams) (i : ℕ) → i < s.count → is_of n k (record_seen (get_or s.records i blank)) ≡ true → ((j : ℕ) → j < i → Other c n k s.records j)
+    → (effect_seen (effect (state_seen (get_or s.records i blank).state) c) ≡ Forbidden → false ≡ is_some (applied c n k (records_seen s)))
+    × ((effect_seen (effect (state_seen (get_or s.records i blank).state) c) ≡ Forbidden → ⊥) → true ≡ is_some (applied c n k (records_seen s)))
+allowed_some c n k s i lt here before =
+    let r = record_seen (get_or s.records i blank) in
+    let is = sym (ap is_some (applied-at c n k s.records s.count i lt (omega (arith, s.full, s.fits)) here before)) in
+    (λ e. forbidden-at (records_seen s) i r _ (sym e) ∙ is, λ ne. allowed_at (records_seen s) i r _ ne ∙ is)
 
 -- a record taken out of its place
 map-removed : (rs : List StreamRecord) (i : ℕ) → map record_seen (remove rs i) ≡ remove (map record_seen rs) i
@@ -155,15 +155,10 @@ module _ (xs : List StreamRecord) (m i h : ℕ) (y : StreamRecord) (lt : i < m) 
 
   pub freed-at : (e : model.Effect) (rs : List StreamRecord) → rs ≡ remove (take m (set xs i y)) i → effect_seen e ≡ Freed
       → record { records = map record_seen rs; highest = h } ≡ or_unchanged before (with_records before (changed_at in_use i was e))
-  freed-at (becomes s) rs out is = absurd (let z : ◌≡◌ {A = ℕ} 0 1 = cc in omega arith)
+  freed-at (becomes s) rs out is = cc
   freed-at frees rs out is =
       let set_first = take-set-lt m xs i y lt in
       let gone = removed-set (take m xs) i y in
       let seen = map-removed (take m xs) i in
       cc
-  freed-at forbidden rs out is = absurd (let z : ◌≡◌ {A = ℕ} 0 1 = cc in omega arith)
-
--- a table with no record in use
-pub none_seen : (s : Streams) → s.count ≡ 0 → s.highest ≡ 0 → streams_seen s ≡ model.no_streams
-unfolding streams_seen
-none_seen s p q = rw (p, q)
+  freed-at forbidden rs out is = cc

@@ -3,3 +3,4 @@ pub mod Effects
 pub mod Begins
 pub mod Order
 pub mod Points
+pub mod Marks

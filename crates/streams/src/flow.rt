@@ -3,62 +3,49 @@ ghost use Rattle.std.specs.Prelude.{◌≡◌, ◌-◌, ◌*◌, ◌≤◌, not,
 ghost use Rattle.cell.specs.Commands.{command_byte};
 ghost use Rattle.model.specs.Messages.{is_data, is_sendme};
 ghost use Rattle.model.specs.Flows.{step, window_start, message_limit, posted as after_posted, received as after_received, acknowledged as after_acknowledged, overruns as too_many};
-ghost use Rattle.streams.specs.Views.{flow_seen};
 
-use crate::types::Flow;
+use crate::types::{Flow, MESSAGE_LIMIT, STEP, WINDOW_START};
 use cell::Command;
 
 impl Flow {
     /// Whether the window lets a command be sent: only DATA needs one.
     pub fn window_allows(&self, command: Command) -> bool
-        ensures { result ≡ not (nat_lt (flow_seen self.now).window (is_data (command_byte command))) }
+        ensures { result ≡ not (nat_lt self.now.window (is_data (command_byte command))) }
     {
         data_count(command) <= self.window
     }
 
     /// Whether this end sent all the messages that it may ever send.
     pub fn spent(&self) -> bool
-        ensures { result ≡ nat_le message_limit (flow_seen self.now).sent }
+        ensures { result ≡ nat_le message_limit self.now.sent }
     {
-        self.sent >= 16_777_216
+        self.sent >= MESSAGE_LIMIT
     }
 
     /// Whether enough DATA is unacknowledged for one acknowledgement.
     pub fn due(&self) -> bool
-        ensures { result ≡ not (nat_lt (flow_seen self.now).unacknowledged step) }
+        ensures { result ≡ not (nat_lt self.now.unacknowledged step) }
     {
-        self.unacknowledged >= 100
+        self.unacknowledged >= STEP
     }
 
     /// Whether the other end sent more than its window, or acknowledged more than it received.
+    #[tactic(auto, unfolding(model::specs::Flows::overruns))]
     pub fn overruns(&self, command: Command) -> bool
-        ensures { result ≡ too_many (command_byte command) (flow_seen self.now) }
+        ensures { result ≡ too_many (command_byte command) self.now }
     {
         match command {
-            Command::Data => self.is_unanswered(),
-            Command::Sendme => self.is_open(),
-            _ => false,
+            Command::Data => self.unacknowledged >= WINDOW_START,
+            Command::Sendme => self.window > WINDOW_START - STEP,
+            Command::Begin | Command::Connected | Command::Drop | Command::End => false,
         }
     }
 
-    // A whole window of DATA waits for acknowledgement.
-    fn is_unanswered(&self) -> bool
-        ensures { result ≡ nat_le window_start (flow_seen self.now).unacknowledged }
-    {
-        self.unacknowledged >= 1_000
-    }
-
-    // One acknowledgement more would raise the window above its start.
-    fn is_open(&self) -> bool
-        ensures { result ≡ nat_lt (window_start - step) (flow_seen self.now).window }
-    {
-        self.window > 900
-    }
-
-    /// A command was sent. Where the window or the number of messages does not allow it, nothing changes.
+    /// A command was sent. Where the window or the number of messages does not allow it, nothing changes. The answer is whether it was
+    /// allowed: a refusal has no other cause, so it needs no error.
     pub fn posted(&mut self, command: Command) -> bool
-        ensures allowed { result ≡ (not (nat_lt (flow_seen self.old).window (is_data (command_byte command))) && not (nat_le message_limit (flow_seen self.old).sent)) }
-        ensures after { flow_seen self.new ≡ (if result then after_posted (command_byte command) (flow_seen self.old) else flow_seen self.old) }
+        ensures allowed { result ≡ (not (nat_lt self.old.window (is_data (command_byte command))) && not (nat_le message_limit self.old.sent)) }
+        ensures after { self.new ≡ (if result then after_posted (command_byte command) self.old else self.old) }
     {
         if !self.window_allows(command) || self.spent() {
             return false;
@@ -68,10 +55,10 @@ impl Flow {
         true
     }
 
-    /// A command was delivered, late or not. One that overruns changes nothing.
+    /// A command was delivered, late or not. One that overruns changes nothing. The answer is whether it was allowed, as of `posted`.
     pub fn received(&mut self, command: Command) -> bool
-        ensures allowed { result ≡ not (too_many (command_byte command) (flow_seen self.old)) }
-        ensures after { flow_seen self.new ≡ (if result then after_received (command_byte command) (flow_seen self.old) else flow_seen self.old) }
+        ensures allowed { result ≡ not (too_many (command_byte command) self.old) }
+        ensures after { self.new ≡ (if result then after_received (command_byte command) self.old else self.old) }
     {
         if self.overruns(command) {
             return false;
@@ -81,20 +68,22 @@ impl Flow {
         true
     }
 
-    /// 100 DATA were acknowledged. Where fewer wait, nothing changes.
+    /// 100 DATA were acknowledged. Where fewer wait, nothing changes. The answer is whether it was allowed, as of `posted`.
     pub fn acknowledged(&mut self) -> bool
-        ensures allowed { result ≡ not (nat_lt (flow_seen self.old).unacknowledged step) }
-        ensures after { flow_seen self.new ≡ (if result then after_acknowledged (flow_seen self.old) else flow_seen self.old) }
+        ensures allowed { result ≡ not (nat_lt self.old.unacknowledged step) }
+        ensures after { self.new ≡ (if result then after_acknowledged self.old else self.old) }
     {
         if !self.due() {
             return false;
         }
-        self.unacknowledged -= 100;
+        self.unacknowledged -= STEP;
         true
     }
 }
 
-// DATA counts one, every other command nothing.
+// DATA counts one, every other command nothing. (Apart from `sendme_count`: each promises a count of the model, which one function of
+// both commands could name only by a command's number.)
+#[tactic(auto, using(crate::proofs::Windows::other_data), unfolding(model::specs::Messages::is_data))]
 fn data_count(command: Command) -> u16
     ensures { result ≡ is_data (command_byte command) }
 {
@@ -108,12 +97,13 @@ fn data_count(command: Command) -> u16
 fn raise(command: Command) -> u16
     ensures { result ≡ step * is_sendme (command_byte command) }
 {
-    100 * sendme_count(command)
+    STEP * sendme_count(command)
 }
 
+#[tactic(auto, using(crate::proofs::Windows::other_sendme), unfolding(model::specs::Messages::is_sendme))]
 fn sendme_count(command: Command) -> u16
     ensures count { result ≡ is_sendme (command_byte command) }
-    ensures one { result ≤ 1 }
+    ensures at_most_one { result ≤ 1 }
 {
     match command {
         Command::Sendme => 1,

@@ -2,13 +2,15 @@
 #![tactic(auto)]
 
 mod flow;
+mod mark;
+mod receiving;
 mod record;
-mod rules;
+mod sending;
 mod start;
 mod table;
 mod types;
 
-pub use types::{Effect, Flow, StreamRecord, StreamState, Streams};
+pub use types::{Effect, Flow, Mark, StreamRecord, StreamState, Streams};
 
 #[cfg(test)]
 mod tests;

@@ -1,20 +1,23 @@
-//! The rules on examples.
+//! The rules on examples. Marks are compared as the numbers that hosts see.
 use crate::types::{Flow, Streams};
-use cell::Command;
+use cell::{Command, Way};
 use std::test::Fail;
 
 #[test]
 fn thirty_two_records(rt: HostRuntime) -> Result<(), Fail> {
     let mut streams = Streams::new();
     for number in 1..33u16 {
-        assert!(rt; streams.client_may_send(1, Command::Begin, number));
-        streams.client_sent(1, Command::Begin, number);
+        assert!(rt; streams.may_send(Way::Forward, 1, Command::Begin, number));
+        streams.sent(Way::Forward, 1, Command::Begin, number);
     }
-    assert!(rt; !streams.client_may_send(1, Command::Begin, 33));
-    streams.client_sent(1, Command::Begin, 33);
+    assert!(rt; !streams.may_send(Way::Forward, 1, Command::Begin, 33));
+    streams.sent(Way::Forward, 1, Command::Begin, 33);
     assert_eq!(rt; streams.count(), 32);
-    assert_eq!(rt; streams.client_received(1, Command::End, 5), 0);
-    streams.client_sent(1, Command::Begin, 33);
+    assert_eq!(rt;
+        u8::from(streams.received(Way::Backward, 1, Command::End, 5)),
+        0
+    );
+    streams.sent(Way::Forward, 1, Command::Begin, 33);
     assert_eq!(rt; streams.count(), 32);
     assert_eq!(rt; streams.record(4).ok_or("no fifth record")?.number, 6);
     assert_eq!(rt; streams.record(31).ok_or("no last record")?.number, 33);
@@ -24,30 +27,51 @@ fn thirty_two_records(rt: HostRuntime) -> Result<(), Fail> {
 #[test]
 fn late(rt: HostRuntime) {
     let mut streams = Streams::new();
-    streams.client_sent(2, Command::Begin, 9);
-    assert!(rt; !streams.client_may_send(2, Command::Data, 9));
+    streams.sent(Way::Forward, 2, Command::Begin, 9);
+    assert!(rt; !streams.may_send(Way::Forward, 2, Command::Data, 9));
     assert_eq!(rt;
-        streams.client_mark(1, Command::Connected, 9),
+        u8::from(streams.mark(Way::Backward, 1, Command::Connected, 9)),
         1,
         "another hop"
     );
-    assert_eq!(rt; streams.client_received(2, Command::Connected, 9), 0);
-    assert_eq!(rt; streams.client_received(2, Command::Connected, 9), 1);
-    assert!(rt; streams.client_may_send(2, Command::Data, 9));
-    assert_eq!(rt; streams.client_received(2, Command::End, 9), 0);
-    assert_eq!(rt; streams.client_received(2, Command::Data, 9), 1);
+    assert_eq!(rt;
+        u8::from(streams.received(Way::Backward, 2, Command::Connected, 9)),
+        0
+    );
+    assert_eq!(rt;
+        u8::from(streams.received(Way::Backward, 2, Command::Connected, 9)),
+        1
+    );
+    assert!(rt; streams.may_send(Way::Forward, 2, Command::Data, 9));
+    assert_eq!(rt;
+        u8::from(streams.received(Way::Backward, 2, Command::End, 9)),
+        0
+    );
+    assert_eq!(rt;
+        u8::from(streams.received(Way::Backward, 2, Command::Data, 9)),
+        1
+    );
 }
 
 #[test]
 fn relay_records(rt: HostRuntime) {
     let mut streams = Streams::new();
-    assert_eq!(rt; streams.relay_received(3, Command::Begin, 0), 1);
-    assert_eq!(rt; streams.relay_received(3, Command::Begin, 7), 0);
-    assert_eq!(rt; streams.relay_mark(3, Command::Begin, 7), 1);
-    assert!(rt; !streams.relay_may_send(3, Command::Data, 7));
-    streams.relay_sent(3, Command::Connected, 7);
-    assert!(rt; streams.relay_may_send(3, Command::Data, 7));
-    streams.relay_sent(3, Command::End, 7);
+    assert_eq!(rt;
+        u8::from(streams.received(Way::Forward, 3, Command::Begin, 0)),
+        1
+    );
+    assert_eq!(rt;
+        u8::from(streams.received(Way::Forward, 3, Command::Begin, 7)),
+        0
+    );
+    assert_eq!(rt;
+        u8::from(streams.mark(Way::Forward, 3, Command::Begin, 7)),
+        1
+    );
+    assert!(rt; !streams.may_send(Way::Backward, 3, Command::Data, 7));
+    streams.sent(Way::Backward, 3, Command::Connected, 7);
+    assert!(rt; streams.may_send(Way::Backward, 3, Command::Data, 7));
+    streams.sent(Way::Backward, 3, Command::End, 7);
     assert_eq!(rt; streams.count(), 0);
 }
 

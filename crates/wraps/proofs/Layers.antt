@@ -1,11 +1,9 @@
 -- Layers added one by one, and the tests between them.
 use Rattle.std.proofs.Common.{◌≡◌, ℕ, zero, suc, ◌+◌, ◌-◌, ◌<◌, ◌≤◌, Bool, cond, List, [], ◌∷◌, length, drop, Some, None, Option, sym, refl, ap, ◌∙◌, arith}
-use Rattle.std.proofs.lemmas.Bool.{lt-ltb, le-ltb, eq-eqb, ne_eqb}
+use Rattle.std.proofs.lemmas.Bool.{lt-ltb, eq-eqb}
 use Rattle.model.specs.Lists.{nth}
 use Rattle.model.specs.Ends.{Rules, End, recognises, sealed, wrapped, coincidence}
 use Rattle.rows.specs.Rows.{Before}
-use Rattle.wraps.specs.declared.error.WrapError.{WrapError}
-use Rattle.wraps.specs.declared.error.WrapError.TheVariants.{Length, NoSuchHop}
 use Rattle.wraps.specs.Wraps.{layered, taken_at, coincides, left_by, from, wrap_refusal, wrap_left}
 
 pub nth_drop : {A : Type 0} (xs : List A) (i k : ℕ) → nth (drop i xs) k ≡ nth xs (i + k)
@@ -37,10 +35,6 @@ module _ {K S : Type 0} (R : Rules K S) where
 
   pub layer-none : (es : List (End K S)) (d : ℕ) (x : List ℕ) → layered R (drop (d + 1) es) (d - d) x ≡ x
   layer-none es d x = let n : d - d ≡ 0 = omega arith in rw n (layer-zero (drop (d + 1) es) x)
-
-  -- the nearest end's layer is the last
-  pub layer-last : (es : List (End K S)) (d : ℕ) (e : End K S) (x : List ℕ) → drop 0 es ≡ e ∷ drop 1 es → layered R (drop 0 es) (d + 1 - 0) x ≡ R.added e.cipher e.layer (layered R (drop 1 es) (d - 0) x)
-  layer-last es d e x h = let m : d + 1 - 0 ≡ suc (d - 0) = omega arith in rw (m, h)
 
   pub taken_none : (es : List (End K S)) (d : ℕ) (x : List ℕ) → taken_at R (drop d es) (d - d) x ≡ None
   taken_none es d x = let n : d - d ≡ 0 = omega arith in rw n (go (drop d es))
@@ -83,12 +77,3 @@ module _ {K S : Type 0} (R : Rules K S) where
 
     pub wrap_left_lem : from o ≤ d → wrap_left R es d b ≡ layered R (drop (from o) es) (d + 1 - from o) (sealed R e.digest b)
     wrap_left_lem l = ap (left_by (λ i. wrapped R (drop i es) (d - i) b) b) wrap-refusal ∙ left-from (λ i. wrapped R (drop i es) (d - i) b) b o ∙ wrapped-from es (from o) d e b l h
-
-  wrap-stops : (es : List (End K S)) (d : ℕ) (b : List ℕ) (w : WrapError) → b ≡ left_by (λ i. wrapped R (drop i es) (d - i) b) b (Some w) → wrap_refusal R es d b ≡ Some w → (wrap_refusal R es d b ≡ Some w) × (b ≡ wrap_left R es d b)
-  wrap-stops es d b w l h = (h, l ∙ ap (left_by (λ i. wrapped R (drop i es) (d - i) b) b) (sym h))
-
-  pub wrap-past : (es : List (End K S)) (d : ℕ) (b : List ℕ) → length es ≤ d → (wrap_refusal R es d b ≡ Some NoSuchHop) × (b ≡ wrap_left R es d b)
-  wrap-past es d b l = wrap-stops es d b NoSuchHop refl (rw (le-ltb d (length es) l))
-
-  pub wrap-short : (es : List (End K S)) (d : ℕ) (b : List ℕ) → d < length es → (length b ≡ 509 → ⊥) → (wrap_refusal R es d b ≡ Some Length) × (b ≡ wrap_left R es d b)
-  wrap-short es d b l n = wrap-stops es d b Length refl (rw (lt-ltb d (length es) l, ne_eqb (length b) 509 n))

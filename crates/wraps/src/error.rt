@@ -1,7 +1,10 @@
 //! Refusals.
 
+use std::error::Error;
+use std::fmt;
+
 /// Why a row of ends does not wrap a payload.
-#[derive(Clone, Copy)]
+#[derive(Clone, Copy, Debug, PartialEq, Eq)]
 pub enum WrapError {
     /// The payload is not 509 bytes.
     Length,
@@ -10,3 +13,15 @@ pub enum WrapError {
     /// The end at this place would take the payload for its own.
     Coincidence(usize),
 }
+
+impl fmt::Display for WrapError {
+    fn fmt<W: fmt::Write>(&self, f: &mut fmt::Formatter<W>) -> fmt::Result {
+        f.write_str(match self {
+            WrapError::Length => "the payload is not 509 bytes",
+            WrapError::NoSuchHop => "there is no such hop (7)",
+            WrapError::Coincidence(_) => "a nearer hop would take the cell for its own (11)",
+        })
+    }
+}
+
+impl Error for WrapError {}

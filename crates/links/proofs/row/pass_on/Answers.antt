@@ -1,67 +1,29 @@
-use Rattle.std.proofs.Common.{◌≡◌, ◌-◌, ◌<◌, true, false, [], ◌∷◌, ◌++◌, length, get_or, drop, set, Ok, Err, sym, refl, ap, ◌∙◌, arith}
-use Rattle.std.proofs.lemmas.List.{length-set}
+use Rattle.std.proofs.Common.{◌≡◌, ◌-◌, ◌<◌, true, false, [], ◌∷◌, ◌++◌, length, get_or, drop, set, is_ok, sym, ap, ◌∙◌, arith, rules}
+use Rattle.std.proofs.lemmas.List.{length-set, length-append, get_or-map}
 use Rattle.links.specs.Lines.{put_answer}
 use Rattle.links.specs.Rows.{rows, capacities, row, at_link, joined}
 use Rattle.links.proofs.Views.{row-set, row_same}
-use Rattle.links.proofs.Answers.{seen, known-seen, put-joins, put_keeps, pass-no-source, pass-no-target, pass-no-cell, pass-empty, pass-put}
+use Rattle.links.proofs.Answers.{seen, known-seen, put-joins, put-keeps, is-ok-unit, when_ok, joined-some, drop-some, pass-put}
 use Rattle.links.proofs.row.pass_on.Goals as goal
 
-pub returns-in_default : goal.returns-in_default
-returns-in_default g c =
+pub returns-in_err-map_err-2-clause-after : goal.returns-in_err-map_err-2-clause-after
+returns-in_err-map_err-2-clause-after g c =
     let m = g.L.Link in
     let ls = c.args.links.now in
-    let none = known-seen m.cells ls c.args.from false c.in_default.ensures in
-    record {
-      answer = rw c.fault.ensures (sym (pass-no-source (capacities m ls) (rows m ls) c.args.from c.args.to c.args.cell.now none));
-      after = refl;
-      fixed = refl;
-    }
+    let t = c.in_ok-target.target in
+    let y = c.index-links-target.result in
+    let old = get_or ls t y in
+    let refused : is_ok (put_answer (m.capacity old) (m.cells old) c.args.cell.now) ≡ false =
+    ap is_ok (sym c.put.ensures.answer) ∙ sym c.map_err-2.ensures.variant ∙ ap is_ok c.in_err-map_err-2.was in
+    let none : is_ok c.from_residual-in_err-map_err-2.result ≡ false = search rules in
+    rw none (row_same m.cells [] ls t y c.put.new.self c.in_ok-target.ensures.2 (c.put.ensures.after ∙ put-keeps (m.capacity old) (m.cells old) c.args.cell.now refused))
 
-pub returns-in_default-index : goal.returns-in_default-index
-returns-in_default-index g c =
-    let m = g.L.Link in
-    let ls = c.args.links.now in
-    let source = known-seen m.cells ls c.args.from true c.in-Some.ensures.0 in
-    let none = known-seen m.cells ls c.args.to false c.in_default-index.ensures in
-    record {
-      answer = rw c.fault-in_default-index.ensures (sym (pass-no-target (capacities m ls) (rows m ls) c.args.from c.args.to c.args.cell.now source none));
-      after = refl;
-      fixed = refl;
-    }
+pub returns-in_err-map_err-2-clause-fixed : goal.returns-in_err-map_err-2-clause-fixed
+returns-in_err-map_err-2-clause-fixed g c =
+    row_same g.L.Link.capacity 0 c.args.links.now c.in_ok-target.target c.index-links-target.result c.put.new.self c.in_ok-target.ensures.2 c.put.ensures.fixed
 
-pub returns-then-cell-ne514 : goal.returns-then-cell-ne514
-returns-then-cell-ne514 g c =
-    let m = g.L.Link in
-    let ls = c.args.links.now in
-    let source = known-seen m.cells ls c.args.from true c.in-Some.ensures.0 in
-    let target = known-seen m.cells ls c.args.to true c.in-Some-index.ensures.0 in
-    record {
-      answer = rw c.fault-then-cell-ne514.ensures
-          (sym (pass-no-cell (capacities m ls) (rows m ls) c.args.from c.args.to c.args.cell.now source target c.if-cell-ne514.true));
-      after = refl;
-      fixed = refl;
-    }
-
-pub returns-then-is_empty : goal.returns-then-is_empty
-returns-then-is_empty g c =
-    let m = g.L.Link in
-    let ls = c.args.links.now in
-    let e = c.in-Some.ensures in
-    let source = known-seen m.cells ls c.args.from true e.0 in
-    let target = known-seen m.cells ls c.args.to true c.in-Some-index.ensures.0 in
-    let here = seen m.cells [] ls c.args.from c.in-Some.source c.index-links-source.result e.1 e.2 in
-    let first = c.index-links-source.result in
-    let zero : length (m.cells (get_or ls c.in-Some.source first)) ≡ 0 = c.is_empty.ensures.yes c.if-is_empty.true in
-    let none : length (row (rows m ls) c.args.from) ≡ 0 = omega (arith, ap length here) in
-    record {
-      answer = rw c.fault-then-is_empty.ensures
-          (sym (pass-empty (capacities m ls) (rows m ls) c.args.from c.args.to c.args.cell.now source target c.if-cell-ne514.false none));
-      after = refl;
-      fixed = refl;
-    }
-
-pub returns-in-Ok : goal.returns-in-Ok
-returns-in-Ok g c =
+pub returns : goal.returns
+returns g c =
     let m = g.L.Link in
     let ls = c.args.links.now in
     let rs = rows m ls in
@@ -69,10 +31,10 @@ returns-in-Ok g c =
     let from = c.args.from in
     let to = c.args.to in
     let cell = c.args.cell.now in
-    let s = c.in-Some.source in
-    let t = c.in-Some-index.target in
-    let e = c.in-Some.ensures in
-    let f = c.in-Some-index.ensures in
+    let s = c.in_ok-source.source in
+    let t = c.in_ok-target.target in
+    let e = c.in_ok-source.ensures in
+    let f = c.in_ok-target.ensures in
     let y = c.index-links-target.result in
     let z = c.put.new.self in
     let last = set ls t z in
@@ -82,60 +44,35 @@ returns-in-Ok g c =
     let there = seen m.cells [] ls to t y f.1 f.2 in
     let cap = seen m.capacity 0 ls to t y f.1 f.2 in
     let first = c.index-links-source.result in
-    let more : 0 < length (m.cells (get_or ls c.in-Some.source first)) = c.is_empty.ensures.no c.if-is_empty.false in
+    let more : 0 < length (m.cells (get_or ls s first)) = c.is_empty.ensures.waits c.if-is_empty.false in
     let some : 0 < length (row rs from) = omega (arith, ap length here) in
-    let p = c.in-Ok.ensures in
     let old = get_or ls t y in
-    let answered : Ok tt ≡ put_answer (m.capacity old) (m.cells old) cell = p.answer in
-    let put_is : m.cells z ≡ m.cells old ++ (cell ∷ []) = p.after ∙ put-joins (m.capacity old) (m.cells old) cell answered in
+    let put_ok : is_ok (put_answer (m.capacity old) (m.cells old) cell) ≡ true =
+    ap is_ok (sym c.put.ensures.answer) ∙ sym c.map_err-2.ensures.variant ∙ ap is_ok c.in_ok-map_err-2.was in
+    let put_is : m.cells z ≡ m.cells old ++ (cell ∷ []) = c.put.ensures.after ∙ put-joins (m.capacity old) (m.cells old) cell put_ok in
     let one : rows m last ≡ joined rs to cell =
     row-set m.cells [] ls t y z f.2 (λ v. v ++ (cell ∷ [])) put_is ∙ ap (λ n. set rs n (get_or rs n [] ++ (cell ∷ []))) f.1 in
     let lt : s < length last = rw (length-set ls t z) e.2 in
-    let x = c.index-links-source-in-Ok.result in
+    let x = c.index-links-source-2.result in
     let w = c.drop_oldest.new.self in
     let gone : m.cells w ≡ drop 1 (m.cells (get_or last s x)) = c.drop_oldest.ensures.after in
     let two = row-set m.cells [] last s x w lt (drop 1) gone in
+    let waits : 0 < length (m.cells (get_or last s x)) =
+    omega (
+      arith,
+      joined-some rs (to - 1) s (row rs to ++ (cell ∷ [])) (omega (arith, ap length (ap (λ n. get_or rs n []) e.1))) (omega (arith, length-append (row rs to) (cell ∷ []))),
+      ap length (sym (ap (λ v. get_or v s []) one) ∙ get_or-map m.cells last s x [] lt),
+    ) in
+    let dropped : is_ok c.map_err-3.result ≡ true =
+    c.map_err-3.ensures.variant ∙ ap is_ok (c.drop_oldest.ensures.answer ∙ sym (drop-some (m.cells (get_or last s x)) waits)) in
+    let whole : length cell ≡ 514 = when_ok _ c.whole_cell.result c.whole_cell.ensures (sym c.map_err.ensures.variant ∙ ap is_ok c.in_ok-map_err.was) in
     record {
-      answer = ap (at_link to) answered
-          ∙ sym (ap (λ n. at_link to (put_answer n (m.cells old) cell)) cap)
-          ∙ sym (ap (λ v. at_link to (put_answer (get_or caps (to - 1) 0) v cell)) there)
-          ∙ sym (pass-put caps rs from to cell source target c.if-cell-ne514.false some);
-      after = two ∙ ap (λ v. set v s (drop 1 (get_or v s []))) one ∙ ap (λ n. set (joined rs to cell) n (drop 1 (get_or (joined rs to cell) n []))) e.1;
+      answer = is-ok-unit c.map_err-3.result dropped
+          ∙ sym (pass-put caps rs from to cell source target whole some
+          ∙ ap (λ n. at_link to (put_answer n (row rs to) cell)) cap
+          ∙ ap (λ v. at_link to (put_answer (m.capacity old) v cell)) there
+          ∙ ap (at_link to) (is-ok-unit (put_answer (m.capacity old) (m.cells old) cell) put_ok));
+      after = rw dropped (two ∙ ap (λ v. set v s (drop 1 (get_or v s []))) one ∙ ap (λ n. set (joined rs to cell) n (drop 1 (get_or (joined rs to cell) n []))) e.1);
       fixed = row_same m.capacity 0 last s x w lt c.drop_oldest.ensures.fixed
-          ∙ row_same m.capacity 0 ls t y z f.2 p.fixed;
-    }
-
-pub returns-in-Err : goal.returns-in-Err
-returns-in-Err g c =
-    let m = g.L.Link in
-    let ls = c.args.links.now in
-    let rs = rows m ls in
-    let caps = capacities m ls in
-    let from = c.args.from in
-    let to = c.args.to in
-    let cell = c.args.cell.now in
-    let t = c.in-Some-index.target in
-    let e = c.in-Some.ensures in
-    let f = c.in-Some-index.ensures in
-    let y = c.index-links-target.result in
-    let z = c.put.new.self in
-    let source = known-seen m.cells ls from true e.0 in
-    let target = known-seen m.cells ls to true f.0 in
-    let here = seen m.cells [] ls from c.in-Some.source c.index-links-source.result e.1 e.2 in
-    let there = seen m.cells [] ls to t y f.1 f.2 in
-    let cap = seen m.capacity 0 ls to t y f.1 f.2 in
-    let first = c.index-links-source.result in
-    let more : 0 < length (m.cells (get_or ls c.in-Some.source first)) = c.is_empty.ensures.no c.if-is_empty.false in
-    let some : 0 < length (row rs from) = omega (arith, ap length here) in
-    let p = c.in-Err.ensures in
-    let old = get_or ls t y in
-    let answered : Err c.in-Err.e ≡ put_answer (m.capacity old) (m.cells old) cell = p.answer in
-    record {
-      answer = rw c.fault-in-Err.ensures
-          (ap (at_link to) answered
-          ∙ sym (ap (λ n. at_link to (put_answer n (m.cells old) cell)) cap)
-          ∙ sym (ap (λ v. at_link to (put_answer (get_or caps (to - 1) 0) v cell)) there)
-          ∙ sym (pass-put caps rs from to cell source target c.if-cell-ne514.false some));
-      after = row_same m.cells [] ls t y z f.2 (p.after ∙ put_keeps (m.capacity old) (m.cells old) cell c.in-Err.e answered);
-      fixed = row_same m.capacity 0 ls t y z f.2 p.fixed;
+          ∙ row_same m.capacity 0 ls t y z f.2 c.put.ensures.fixed;
     }

@@ -1,8 +1,8 @@
--- The ends before i moved on.
-use Rattle.std.proofs.Common.{◌≡◌, map}
+-- The ends before the one in turn moved on.
+use Rattle.std.proofs.Common.{◌≡◌, ◌++◌, map, drop}
 use Rattle.model.specs.Ends.{moved_to}
 use Rattle.hops.specs.Views.{end_seen}
 use Rattle.rows.proofs.row.move_up_to.Given as goal
 
-abbrev pub invariant-loop-i : goal.invariant-loop-i
-invariant-loop-i g l = map (end_seen g.D.Digest) l.ends ≡ moved_to l.i (map (end_seen g.D.Digest) l.initial.ends)
+abbrev pub invariant-loop-end : goal.invariant-loop-end
+invariant-loop-end g l = map (end_seen g.D.Digest) (l.end-items ++ drop l.fn.d l.fn.ends) ≡ moved_to l.end-index (map (end_seen g.D.Digest) l.fn.ends)

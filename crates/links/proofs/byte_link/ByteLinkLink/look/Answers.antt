@@ -1,22 +1,15 @@
-use Rattle.std.proofs.Common.{◌≡◌, suc, ◌-◌, ◌/◌, ◌≤◌, get_or, ap, ◌∙◌, arith}
+use Rattle.std.proofs.Common.{◌≡◌, ◌/◌, length, arith}
+use Rattle.std.proofs.lemmas.Grind.{common_steps}
 use Rattle.queue.specs.Ring.{waiting}
 use Rattle.links.specs.Cuts.{cut}
-use Rattle.links.proofs.Answers.{look-some}
 use Rattle.links.specs.Wholes.{length_cut}
+use Rattle.links.proofs.Answers.{look-by}
 use Rattle.links.proofs.byte_link.ByteLinkLink.look.Goals as goal
 
-pub returns : goal.returns
-returns c =
+pub returns-clause-answer : goal.returns-clause-answer
+returns-clause-answer c =
     let l = c.args.self.now in
-    let W = waiting l.ring l.place in
-    let n = l.place.count / 514 in
-    let buffer = c.args.cell.now in
-    let e = c.copy_oldest.ensures.yes c.if-not-copy_oldest.false in
-    let some : 514 ≤ l.place.count = e.0 in
-    let long = length_cut n W in
-    let is : suc (n - 1) ≡ n = omega arith in
-    let shown = look-some (cut n W) buffer c.if-cell-ne514.false (omega arith) in
-    record {
-      answer = shown.0;
-      shows = e.1 ∙ ap (λ k. get_or (cut k W) 0 buffer) is ∙ shown.1;
-    }
+    let cells = cut (l.place.count / 514) (waiting l.ring l.place) in
+    let whole : length c.args.cell.now ≡ 514 = grind (arith, common_steps) in
+    let long = length_cut (l.place.count / 514) (waiting l.ring l.place) in
+    look-by cells c.args.cell.now whole _ c.copy_oldest.result (λ h. omega (arith, long, h.0)) (λ e h. (omega (arith, long, h.0), h.1)) c.copy_oldest.ensures

@@ -1,35 +1,24 @@
-use Rattle.std.proofs.Common.{◌≡◌, suc, ◌+◌, ◌/◌, length, refl, ap, ◌∙◌, arith}
-use Rattle.queue.specs.Ring.{waiting}
-use Rattle.queue.proofs.Turns.{length-waiting}
+use Rattle.std.proofs.Common.{◌≡◌, ◌+◌, ◌/◌, ◌++◌, length, ap, ◌∙◌, arith}
+use Rattle.std.proofs.lemmas.Grind.{common_steps}
+use Rattle.queue.specs.Ring.{waiting, grown}
+use Rattle.queue.proofs.Turns.{length_waiting}
 use Rattle.links.specs.Cuts.{cut}
-use Rattle.links.proofs.Answers.{put-room, put_full}
-use Rattle.links.specs.Wholes.{length_cut, cut-push}
+use Rattle.links.specs.Wholes.{length_cut, cut_push}
+use Rattle.links.proofs.Answers.{put-room}
 use Rattle.links.proofs.byte_link.ByteLinkLink.put.Goals as goal
 
-pub returns-then-is_full : goal.returns-then-is_full
-returns-then-is_full c =
-    let l = c.args.self.now in
-    let W = waiting l.ring l.place in
-    let n = l.place.count / 514 in
-    let long = length_cut n W in
-    let full = put_full l.capacity (cut n W) c.args.cell.now c.if-cell-ne514.false (omega (arith, c.is_full.ensures.yes c.if-is_full.true)) in
-    record { answer = full.0; after = full.1; fixed = refl }
-
-pub returns-in-Ok : goal.returns-in-Ok
-returns-in-Ok c =
+pub returns-clause-after : goal.returns-clause-after
+returns-clause-after c =
     let l = c.args.self.now in
     let W = waiting l.ring l.place in
     let n = l.place.count / 514 in
     let cell = c.args.cell.now in
-    let e = c.in-Ok.ensures in
+    let p = c.in_ok-self.field-0 in
+    let whole : length cell ≡ 514 = grind (arith, common_steps) in
+    let more : p ≡ grown l.place (length cell) = grind (arith, common_steps) in
+    let joined : waiting c.put_all.new.slots p ≡ W ++ cell = grind (arith, common_steps) in
+    let count : p.count ≡ l.place.count + length cell = ap (λ p. p.count) more in
+    let size : length W ≡ l.place.count = length_waiting l.ring l.place (omega (arith, l.sound.0, l.sound.1)) (omega (arith, l.sound.0, l.sound.3, l.few.1)) in
     let long = length_cut n W in
-    let size : length W ≡ l.place.count = length-waiting l.ring l.place (omega (arith, l.sound.0, l.sound.1)) (omega (arith, l.sound.0, l.sound.3, l.few.1)) in
-    let count : c.in-Ok.place.count ≡ l.place.count + length cell = ap (λ p. p.count) e.1 in
-    let more : c.in-Ok.place.count / 514 ≡ suc n = omega arith in
-    let put = put-room l.capacity (cut n W) cell c.if-cell-ne514.false (omega (arith, c.is_full.ensures.no c.if-is_full.false)) in
-    record {
-      answer = put.0;
-      after = ap (λ k. cut k (waiting c.put_all.new.slots c.in-Ok.place)) more ∙ ap (cut (suc n)) e.2
-          ∙ cut-push n W cell (omega arith) c.if-cell-ne514.false ∙ put.1;
-      fixed = refl;
-    }
+    cut_push n (p.count / 514) W cell (waiting c.put_all.new.slots p) joined (omega (arith, l.sound.2)) (omega (arith, l.sound.2)) whole
+    ∙ (put-room l.capacity (cut n W) cell whole (omega (arith, c.is_full.ensures.has_room c.if-is_full.false))).1

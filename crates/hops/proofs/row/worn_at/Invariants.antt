@@ -1,9 +1,0 @@
--- No end before j is worn out.
-use Rattle.std.proofs.Common.{◌≡◌, map, drop}
-use Rattle.model.specs.Ends.{worn_at}
-use Rattle.hops.specs.Views.{end_seen}
-use Rattle.hops.proofs.Walks.{past}
-use Rattle.hops.proofs.row.worn_at.Given as goal
-
-abbrev pub invariant-loop-j : goal.invariant-loop-j
-invariant-loop-j g l = worn_at (map (end_seen g.D.Digest) l.ends) ≡ past l.j (worn_at (drop l.j (map (end_seen g.D.Digest) l.ends)))
