@@ -2,7 +2,7 @@
 #![tactic(auto)]
 
 ghost use Rattle.std.specs.Prelude.{◌≡◌, ◌+◌, ◌*◌, ◌≤◌, length, take};
-ghost use Rattle.aes.specs.Schedule.{Schedule};
+ghost use Rattle.aes.specs.Schedule.{Schedule, used-sound};
 
 use std::marker::Model;
 
@@ -19,14 +19,13 @@ pub mod worked_points;
 pub struct KeySchedule {
     words: [u32; 60],
     rounds: usize,
+    ghost sound: { (length words ≡ 60) × (10 ≤ rounds) × (rounds ≤ 14) },
 }
 
 impl Model for KeySchedule {
     ghost Value = { Schedule };
 
-    ghost view = { λ k. record { rounds = k.rounds; words = take (4 * (k.rounds + 1)) k.words } };
-
-    ghost invariant = { λ k. (length k.words ≡ 60) × (10 ≤ k.rounds) × (k.rounds ≤ 14) };
+    ghost view = { λ k. record { rounds = k.rounds; words = take (4 * (k.rounds + 1)) k.words; sound = used-sound k.rounds k.words k.sound } };
 }
 
 // A state or a round key: its four columns, each a word whose highest byte is row 0. Four fields, and neither an array nor a

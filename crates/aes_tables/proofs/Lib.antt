@@ -1,5 +1,5 @@
 mod Table
 mod Tables
-mod Xoring
+pub mod Xoring
 pub mod Words
 pub mod Inverse

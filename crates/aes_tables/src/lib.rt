@@ -1,4 +1,4 @@
-//! The substitution of FIPS 197 and the tables that a round reads.
+//! The substitution of FIPS 197, the tables that a round reads, and exclusive-or of one list of bytes into another.
 #![tactic(auto)]
 
 ghost use Rattle.std.specs.Int.Bits.{bit_xor};
@@ -92,7 +92,8 @@ const POWERS: [u8; 51] = [
     0xe8, 0xcb, 0x8d,
 ];
 
-// Each table is read by a function of its own, so that a changed entry is refused here and not where it is used.
+// The S-box and the powers are each read by a function of its own, the round tables by one, so that a changed entry is refused
+// here and not where it is used.
 
 fn sbox_entry(x: u8) -> u8
     ensures { result ≡ get_or sbox_table x 0 }

@@ -1,6 +1,7 @@
 -- Bytes fed one by one give what their blocks give.
-use Rattle.std.proofs.Common.{◌≡◌, ℕ, zero, suc, ◌+◌, ◌*◌, ◌/◌, ◌%◌, ◌<◌, ◌≤◌, eqb, List, [], ◌∷◌, ◌++◌, fold, length, take, drop, sym, refl, ap, ◌∙◌, suc-mul, zero-mul, arith}
-use Rattle.std.proofs.lemmas.List.{append-nil, append_assoc, length_push, length-drop, length-take-le, take-append-drop, drop-drop}
+use Rattle.std.proofs.Common.{◌≡◌, ℕ, zero, suc, ◌+◌, ◌-◌, ◌*◌, ◌/◌, ◌%◌, ◌<◌, ◌≤◌, eqb, List, [], ◌∷◌, ◌++◌, fold, length, get_or, take, drop, set, sym, refl, ap, ◌∙◌, add_assoc, suc-mul, zero-mul, add-one, arith}
+use native.Mathlib.Nat.{div-eq_of_lt, div-eq-sub-div}
+use Rattle.std.proofs.lemmas.List.{append-nil, append_assoc, length_push, length-drop, length-take-le, take-append-drop, drop-drop, take_more, take_more_set}
 use Rattle.std.specs.Simd.{first_chunks}
 use Rattle.std.proofs.lemmas.Bool.{eq-eqb, ne_eqb, cond-true, cond-false}
 use Rattle.std.proofs.lemmas.Nat.{div-add-mod', mod_below}
@@ -60,24 +61,59 @@ module _ {S : Type 0} (w : ℕ) (f : S → List ℕ → S) where
   fold_chunks zero s bs = refl
   fold_chunks (suc n) s bs = fold_chunks n (f s (take w bs)) (drop w bs)
 
+  -- the first of the blocks that are left
+  pub blocks_more : (s : S) (bs : List ℕ) → 0 < w → w ≤ length bs → blocks w f s bs ≡ blocks w f (f s (take w bs)) (drop w bs)
+  blocks_more s bs p le =
+      let n : length bs / w ≡ suc (length (drop w bs) / w)
+      = div-eq-sub-div p le ∙ ap (λ (k : ℕ). k / w + 1) (sym (length-drop w bs)) ∙ add-one (length (drop w bs) / w) in
+      ap (λ (k : ℕ). first_blocks w f k s bs) n
+
+  pub blocks-none : (s : S) (bs : List ℕ) → length bs < w → blocks w f s bs ≡ s
+  blocks-none s bs lt = ap (λ (k : ℕ). first_blocks w f k s bs) (div-eq_of_lt lt)
+
   -- n bytes fill the block; then whole blocks, and what is left over
-  feed-through : (s : S) (r bs : List ℕ) (n : ℕ) → n ≤ length bs → 0 < n → length r + n ≡ w
+  pub feed-filled : (s : S) (r bs : List ℕ) (n : ℕ) → n ≤ length bs → 0 < n → length r + n ≡ w
       → feed w f (running_at s r) bs ≡ running_at (blocks w f (f s (r ++ take n bs)) (drop n bs)) (drop (length (drop n bs) / w * w) (drop n bs))
-  feed-through s r bs n le p full =
+  feed-filled s r bs n le p full =
       let k : length (take n bs) ≡ n = length-take-le n bs le in
       ap (feed w f (running_at s r)) (sym (take-append-drop n bs))
       ∙ feed-append (running_at s r) (take n bs) (drop n bs)
       ∙ ap (λ t. feed w f t (drop n bs)) (feed-fills s r (take n bs) (omega arith) (omega arith))
       ∙ feed-law (f s (r ++ take n bs)) (drop n bs) (omega arith)
 
-  -- the same in the parts that the code makes
-  pub feed-parts : (s s1 s2 : S) (r bs first later tail : List ℕ) (whole : List (List ℕ)) (n : ℕ) → n ≤ length bs → 0 < n → length r + n ≡ w
+  -- the same, what is left over by its length
+  pub feed-through : (s : S) (r bs : List ℕ) (n : ℕ) → n ≤ length bs → 0 < n → length r + n ≡ w
+      → feed w f (running_at s r) bs ≡ running_at (blocks w f (f s (r ++ take n bs)) (drop n bs)) (drop (length (drop n bs) - length (drop n bs) % w) (drop n bs))
+  feed-through s r bs n le p full =
+      let m : length (drop n bs) / w * w ≡ length (drop n bs) - length (drop n bs) % w = omega (arith, div-add-mod' (length (drop n bs)) w) in
+      feed-filled s r bs n le p full ∙ ap (λ (j : ℕ). running_at (blocks w f (f s (r ++ take n bs)) (drop n bs)) (drop j (drop n bs))) m
+
+  -- the same in parts
+  pub feed-parts : (s s1 s2 : S) (r bs first later tail : List ℕ) (n : ℕ) → n ≤ length bs → 0 < n → length r + n ≡ w
+      → first ≡ take n bs → later ≡ drop n bs → tail ≡ drop (length later - length later % w) later
+      → s1 ≡ f s (r ++ first) → s2 ≡ blocks w f s1 later → running_at s2 tail ≡ feed w f (running_at s r) bs
+  feed-parts s s1 s2 r bs first later tail n le p full ef el et e1 e2 =
+      let h = feed-through s r bs n le p full in
+      cc
+
+  -- the same in the parts that the code makes: the whole blocks as a list
+  pub feed-chunks : (s s1 s2 : S) (r bs first later tail : List ℕ) (whole : List (List ℕ)) (n : ℕ) → n ≤ length bs → 0 < n → length r + n ≡ w
       → first ≡ take n bs → later ≡ drop n bs → whole ≡ first_chunks w (length later / w) later → tail ≡ drop (length later / w * w) later
       → s1 ≡ f s (r ++ first) → s2 ≡ fold f s1 whole → running_at s2 tail ≡ feed w f (running_at s r) bs
-  feed-parts s s1 s2 r bs first later tail whole n le p full ef el ew et e1 e2 =
-      let h = feed-through s r bs n le p full in
+  feed-chunks s s1 s2 r bs first later tail whole n le p full ef el ew et e1 e2 =
+      let h = feed-filled s r bs n le p full in
       let k = fold_chunks (length later / w) s1 later in
       cc
+
+-- one byte more of a part that is written into a block
+pub put-more : (was xs part : List ℕ) (i k : ℕ) → i + k < length xs → k < length part → take (i + k) xs ≡ take i was ++ take k part
+    → take (i + (k + 1)) (set xs (i + k) (get_or part k 0)) ≡ take i was ++ take (k + 1) part
+put-more was xs part i k lt lp h =
+    ap (λ n. take n (set xs (i + k) (get_or part k 0))) (sym (add_assoc i k 1))
+    ∙ take_more_set xs (i + k) (get_or part k 0) lt
+    ∙ ap (λ v. v ++ (get_or part k 0 ∷ [])) h
+    ∙ append_assoc (take i was) (take k part) (get_or part k 0 ∷ [])
+    ∙ ap (λ v. take i was ++ v) (sym (take_more part k 0 lp))
 
 -- what is left over has the length modulo the block's
 pub rest-length : {S : Type 0} (w : ℕ) (f : S → List ℕ → S) (s : S) (bs : List ℕ) → 0 < w → length (feed w f (running_at s []) bs).rest ≡ length bs % w

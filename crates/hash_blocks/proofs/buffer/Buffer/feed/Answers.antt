@@ -1,7 +1,7 @@
 use Rattle.std.proofs.Common.{◌≡◌, ℕ, ◌+◌, ◌-◌, List, ◌++◌, length, take, drop, sym, refl, ap, ◌∙◌, arith}
 use Rattle.std.proofs.lemmas.List.{length-take-le, take_all, take_rest}
 use Rattle.hash_blocks.specs.Blocks.{running_at}
-use Rattle.hash_blocks.proofs.Feed.{feed-short, feed-parts, feed-law}
+use Rattle.hash_blocks.proofs.Feed.{feed-short, feed-chunks, feed-law}
 use Rattle.hash_blocks.proofs.buffer.Buffer.feed.Goals as goal
 
 pub returns-then-bytes-room : goal.returns-then-bytes-room
@@ -31,7 +31,7 @@ returns-else-bytes-room g c =
     record {
       fed = ap (λ (j : ℕ). running_at (view c.absorb_all.new.state) (take j c.put-else-bytes-room-2.new.block)) (omega arith)
           ∙ ap (running_at (view c.absorb_all.new.state)) c.put-else-bytes-room-2.ensures.front
-          ∙ feed-parts g.row.W g.S.BlockFunction.after (view c.args.self.now.state) (view c.absorb.new.self) (view c.absorb_all.new.state)
+          ∙ feed-chunks g.row.W g.S.BlockFunction.after (view c.args.self.now.state) (view c.absorb.new.self) (view c.absorb_all.new.state)
           (take fill c.args.self.now.block) bs (take n bs) later rest c.as_chunks.result.0.now n
           (omega arith) (omega (arith, c.args.self.now.unfinished, c.args.self.now.size)) (omega (arith, c.args.self.now.unfinished, c.args.self.now.size))
           refl (take_rest bs n) c.as_chunks.ensures.front c.as_chunks.ensures.back (c.absorb.ensures ∙ ap (g.S.BlockFunction.after (view c.args.self.now.state)) whole) c.absorb_all.ensures;
