@@ -102,8 +102,8 @@ fn run(rt: &HostRuntime) -> anyhow::Result<()> {
     let heap = rt.alloc();
     for (suite, length) in [(1u16, 72u32), (2, 128), (3, 320)] {
         passing(rt, suite, &keys(heap, suite, length)?.cipher, count)?;
-        let WayKeys { cipher, digest } = keys(heap, suite, length)?;
-        delivered(rt, suite, &cipher, digest, count)?;
+        let way = keys(heap, suite, length)?;
+        delivered(rt, suite, &way.cipher, way.digest, count)?;
     }
     Ok(())
 }

@@ -1,16 +1,30 @@
 -- The end of a message, the lanes past a block, and what a running digest is over the bytes that it took.
-use Rattle.std.proofs.Common.{◌≡◌, ℕ, suc, ◌+◌, ◌-◌, ◌%◌, ◌<◌, ◌≤◌, List, ◌∷◌, ◌++◌, length, get_or, take, set, replicate, sym, refl, ap, ◌∙◌, add-one, arith}
+use Rattle.std.proofs.Common.{◌≡◌, ℕ, suc, ◌+◌, ◌-◌, ◌*◌, ◌%◌, ◌<◌, ◌≤◌, List, ◌∷◌, ◌++◌, length, get_or, take, set, replicate, sym, refl, ap, ◌∙◌, add-one, arith}
 use lib.Bits.{bit_xor}
 use lib.Seq.{take-set-lt}
-use Rattle.std.proofs.lemmas.List.{append_assoc, get_or-take, take-replicate, length-replicate, length-take-le}
+use Rattle.std.proofs.lemmas.List.{append_assoc, get_or_past, get_or-take, take-replicate, length-replicate, length-take-le}
 use Rattle.hash_blocks.specs.Blocks.{feed}
 use Rattle.hash_blocks.specs.Buffers.{running}
 use Rattle.hash_blocks.specs.declared.buffer.Buffer.{Buffer}
 use Rattle.hash_blocks.proofs.Feed.{feed-append, feed-law, rest-length}
-use Rattle.sha3.specs.Sha3.{last_marked, padding, absorb_block, zero_state, squeezed, sha3}
+use Rattle.sha3.specs.Sha3.{block_lane, last_marked, padding, absorb_block, zero_state, squeezed, sha3}
 use Rattle.hash_blocks.specs.Taking.{took_all, joined}
 use Rattle.hash_blocks.proofs.Taking.{held_all}
 use Rattle.sha3.specs.Digests.{Sha3State, empty, takes, finish, first_four, tags}
+
+pub lane_past : (bs : List ℕ) (i : ℕ) → length bs ≤ 8 * i → 0 ≡ block_lane bs i
+lane_past bs i h =
+    omega (
+      arith,
+      get_or_past bs (8 * i) 0 h,
+      get_or_past bs (8 * i + 1) 0 (omega arith),
+      get_or_past bs (8 * i + 2) 0 (omega arith),
+      get_or_past bs (8 * i + 3) 0 (omega arith),
+      get_or_past bs (8 * i + 4) 0 (omega arith),
+      get_or_past bs (8 * i + 5) 0 (omega arith),
+      get_or_past bs (8 * i + 6) 0 (omega arith),
+      get_or_past bs (8 * i + 7) 0 (omega arith),
+    )
 
 -- the block that the end is written into
 abbrev pub blank : List ℕ

@@ -2,7 +2,7 @@
 ghost use Rattle.std.specs.Prelude.{◌≡◌, ℕ, List, ◌++◌, take};
 ghost use Rattle.std.proofs.Math.Path.{refl};
 ghost use Rattle.hash_blocks.specs.Taking.{took_all, joined};
-ghost use Rattle.sha3.specs.Digests.{Sha3State, empty, takes, finish, first_four, tags};
+ghost use Rattle.sha3.specs.Digests.{Sha3State, state_of, empty, takes, finish, first_four, tags};
 ghost use Rattle.sha3.specs.Laws.{Sha3Laws};
 ghost use Rattle.sha3.specs.Planes.{flat};
 ghost use Rattle.sha3.specs.Sha3.{squeezed, sha3};
@@ -17,7 +17,7 @@ use hash_blocks::buffer::{BlockFunction, Buffer};
 impl Sha3 {
     /// A digest that took nothing.
     fn empty() -> Sha3
-        ensures { result ≡ empty }
+        ensures { state_of result ≡ empty }
     {
         let zero = plane(0, 0, 0, 0, 0);
         let lanes = Lanes {
@@ -38,8 +38,8 @@ impl Sha3 {
     /// A digest that took the seed. Whatever payloads it then takes, the next payload's tag is
     /// the first four bytes of the hash over the seed, those payloads and this one.
     pub fn seeded(seed: &[u8]) -> Sha3
-        ensures state { result ≡ takes empty seed.now }
-        ensures tags { (ps : List (List ℕ)) (p : List ℕ) → tags (took_all takes result ps) p ≡ take 4 (sha3 (seed.now ++ (joined ps ++ p))) }
+        ensures state { state_of result ≡ takes empty seed.now }
+        ensures tags { (ps : List (List ℕ)) (p : List ℕ) → tags (took_all takes (state_of result) ps) p ≡ take 4 (sha3 (seed.now ++ (joined ps ++ p))) }
     {
         let mut digest = Sha3::empty();
         digest.take(seed);
@@ -48,7 +48,7 @@ impl Sha3 {
 
     /// A second digest in the same state; no `Clone`, since a secret has none.
     fn another(&self) -> Sha3
-        ensures { result ≡ self.now }
+        ensures { state_of result ≡ state_of self.now }
     {
         Sha3 {
             buffer: self.buffer.another(),
@@ -57,7 +57,7 @@ impl Sha3 {
 
     /// The lanes over all that was taken.
     fn finished(&self) -> Lanes
-        ensures { flat result ≡ finish self.now }
+        ensures { flat result ≡ finish (state_of self.now) }
     {
         let mut end = self.buffer.another();
         pad(&mut end);
@@ -67,7 +67,7 @@ impl Sha3 {
     /// The first four bytes of the hash over all that was taken.
     #[tactic(auto, unfolding(crate::specs::Digests::first_four))]
     fn first_four(&self) -> [u8; 4]
-        ensures { result ≡ first_four self.now }
+        ensures { result ≡ first_four (state_of self.now) }
     {
         let [b0, b1, b2, b3, _, _, _, _] = self.finished().y0.x0.to_le_bytes();
         [b0, b1, b2, b3]
@@ -78,7 +78,7 @@ impl Sha3 {
 impl Digest for Sha3 {
     ghost State = { Sha3State };
 
-    ghost state = { λ d. d };
+    ghost state = { λ d. state_of d };
 
     ghost takes = { λ s p. takes s p };
 
@@ -124,7 +124,7 @@ pub fn sha3_256(message: &[u8]) -> [u8; 32]
 
 /// Takes two parts, the second after the first.
 fn take_both(digest: &mut Sha3, first: &[u8], second: &[u8])
-    ensures { digest.new ≡ takes (takes digest.old first.now) second.now }
+    ensures { state_of digest.new ≡ takes (takes (state_of digest.old) first.now) second.now }
 {
     digest.take(first);
     digest.take(second);

@@ -123,14 +123,19 @@ drop-quad ws t le =
     let zero : drop t ws ≡ get_or ws t 0 ∷ drop (t + 1) ws = drop_more ws t 0 (omega arith) in
     cc
 
-steps-four : (g : ℕ → ℕ → ℕ → ℕ) (k : ℕ) (ws : List ℕ) (t u : ℕ) (q : Quad) (v z : Working) → t + 4 ≤ length ws → t + 4 ≡ u → Four g k t → q ≡ quad_at ws t
-    → steps t (drop t ws) v ≡ z → steps u (drop u ws) (four_steps g k q v) ≡ z
-steps-four g k ws t u q v z le eu four eq h =
-    subst (λ (n : ℕ). steps n (drop n ws) (four_steps g k q v) ≡ z) eu
-    (ap (λ (x : Quad). steps (t + 4) (drop (t + 4) ws) (four_steps g k x v)) eq
+pub steps-four : (g : ℕ → ℕ → ℕ → ℕ) (k : ℕ) (ws : List ℕ) (t : ℕ) (q : Quad) (v v' z : Working) → t + 4 ≤ length ws → Four g k t → q ≡ quad_at ws t → v' ≡ four_steps g k q v
+    → steps t (drop t ws) v ≡ z → steps (t + 4) (drop (t + 4) ws) v' ≡ z
+steps-four g k ws t q v v' z le four eq ev h =
+    ap (steps (t + 4) (drop (t + 4) ws)) (ev ∙ ap (λ (x : Quad). four_steps g k x v) eq)
     ∙ sym (four (quad_at ws t) (drop (t + 4) ws) v)
     ∙ ap (λ (xs : List ℕ). steps t xs v) (sym (drop-quad ws t le))
-    ∙ h)
+    ∙ h
+
+-- the same, where the place after the four is counted in another way
+steps-four-to : (g : ℕ → ℕ → ℕ → ℕ) (k : ℕ) (ws : List ℕ) (t u : ℕ) (q : Quad) (v z : Working) → t + 4 ≤ length ws → t + 4 ≡ u → Four g k t → q ≡ quad_at ws t
+    → steps t (drop t ws) v ≡ z → steps u (drop u ws) (four_steps g k q v) ≡ z
+steps-four-to g k ws t u q v z le eu four eq h =
+    subst (λ (n : ℕ). steps n (drop n ws) (four_steps g k q v) ≡ z) eu (steps-four g k ws t q v _ z le four eq refl h)
 
 -- twenty steps with one function and one constant
 pub steps-twenty : (g : ℕ → ℕ → ℕ → ℕ) (k : ℕ) (ws : List ℕ) (t : ℕ) (a b c d e : Quad) (v v' z : Working) → t + 20 ≤ length ws
@@ -139,11 +144,11 @@ pub steps-twenty : (g : ℕ → ℕ → ℕ → ℕ) (k : ℕ) (ws : List ℕ) (
     → v' ≡ twenty_steps g k a b c d e v
     → steps t (drop t ws) v ≡ z → steps (t + 20) (drop (t + 20) ws) v' ≡ z
 steps-twenty g k ws t a b c d e v v' z le f0 f4 f8 f12 f16 ea eb ec ed ee ev h =
-    let at4 = steps-four g k ws t (t + 4) a v z (omega arith) refl f0 ea h in
-    let at8 = steps-four g k ws (t + 4) (t + 8) b _ z (omega arith) (omega arith) f4 eb at4 in
-    let at12 = steps-four g k ws (t + 8) (t + 12) c _ z (omega arith) (omega arith) f8 ec at8 in
-    let at16 = steps-four g k ws (t + 12) (t + 16) d _ z (omega arith) (omega arith) f12 ed at12 in
-    ap (steps (t + 20) (drop (t + 20) ws)) ev ∙ steps-four g k ws (t + 16) (t + 20) e _ z (omega arith) (omega arith) f16 ee at16
+    let at4 = steps-four-to g k ws t (t + 4) a v z (omega arith) refl f0 ea h in
+    let at8 = steps-four-to g k ws (t + 4) (t + 8) b _ z (omega arith) (omega arith) f4 eb at4 in
+    let at12 = steps-four-to g k ws (t + 8) (t + 12) c _ z (omega arith) (omega arith) f8 ec at8 in
+    let at16 = steps-four-to g k ws (t + 12) (t + 16) d _ z (omega arith) (omega arith) f12 ed at12 in
+    ap (steps (t + 20) (drop (t + 20) ws)) ev ∙ steps-four-to g k ws (t + 16) (t + 20) e _ z (omega arith) (omega arith) f16 ee at16
 
 pub steps_all : (ws : List ℕ) (t : ℕ) (v z : Working) → length ws ≤ t → steps t (drop t ws) v ≡ z → v ≡ z
 steps_all ws t v z le h = ap (λ (xs : List ℕ). steps t xs v) (sym (drop_all t ws le)) ∙ h

@@ -4,7 +4,7 @@ ghost use Rattle.std.proofs.Math.Path.{refl};
 ghost use Rattle.hash_blocks.specs.Blocks.{feed};
 ghost use Rattle.hash_blocks.specs.Buffers.{running};
 ghost use Rattle.hash_blocks.specs.Taking.{took_all, joined};
-ghost use Rattle.sha_1.specs.Digests.{Sha1State, empty, takes, finish, first_four, tags};
+ghost use Rattle.sha_1.specs.Digests.{Sha1State, state_of, empty, takes, finish, first_four, tags};
 ghost use Rattle.sha_1.specs.Sha1.{compress, be64, padding, digest_bytes, sha1};
 ghost use Rattle.sha_1.specs.declared.words.HashValue.{HashValue as FiveWords};
 
@@ -57,7 +57,7 @@ fn pad(buffer: &mut Buffer<HashValue, 64>, len: u64)
 impl Sha1 {
     /// A digest that took nothing.
     fn empty() -> Sha1
-        ensures { result ≡ empty }
+        ensures { state_of result ≡ empty }
     {
         let state = HashValue {
             h0: 0x67452301,
@@ -77,8 +77,8 @@ impl Sha1 {
     /// A digest that took the seed. Whatever payloads it then takes, the next payload's tag is
     /// the first four bytes of the hash over the seed, those payloads and this one.
     pub fn seeded(seed: &[u8]) -> Sha1
-        ensures state { result ≡ takes empty seed.now }
-        ensures tags { (ps : List (List ℕ)) (p : List ℕ) → tags (took_all takes result ps) p ≡ take 4 (sha1 (seed.now ++ (joined ps ++ p))) }
+        ensures state { state_of result ≡ takes empty seed.now }
+        ensures tags { (ps : List (List ℕ)) (p : List ℕ) → tags (took_all takes (state_of result) ps) p ≡ take 4 (sha1 (seed.now ++ (joined ps ++ p))) }
     {
         let mut digest = Sha1::empty();
         digest.take(seed);
@@ -87,7 +87,7 @@ impl Sha1 {
 
     /// A second digest in the same state; no `Clone`, since a secret has none.
     fn another(&self) -> Sha1
-        ensures { result ≡ self.now }
+        ensures { state_of result ≡ state_of self.now }
     {
         Sha1 {
             buffer: self.buffer.another(),
@@ -98,7 +98,7 @@ impl Sha1 {
     /// The hash value over all that was taken.
     #[tactic(auto, unfolding(crate::specs::Digests::finish))]
     fn finished(&self) -> HashValue
-        ensures { result ≡ finish self.now }
+        ensures { result ≡ finish (state_of self.now) }
     {
         let mut end = self.buffer.another();
         pad(&mut end, self.len);
@@ -108,7 +108,7 @@ impl Sha1 {
     /// The first four bytes of the hash over all that was taken.
     #[tactic(auto, unfolding(crate::specs::Digests::first_four))]
     fn first_four(&self) -> [u8; 4]
-        ensures { result ≡ first_four self.now }
+        ensures { result ≡ first_four (state_of self.now) }
     {
         self.finished().h0.to_be_bytes()
     }
@@ -120,7 +120,7 @@ impl Sha1 {
 impl Digest for Sha1 {
     ghost State = { Sha1State };
 
-    ghost state = { λ d. d };
+    ghost state = { λ d. state_of d };
 
     ghost takes = { λ s p. takes s p };
 

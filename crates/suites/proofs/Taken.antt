@@ -23,15 +23,15 @@ took-sha3 s (p ∷ ps) = took-sha3 (three.takes s p) ps
 
 module _ (s : Suite) (seed : List ℕ) where
   pub sha1-digest : (d : Sha1) → ((m : List ℕ) → suite_hash s m ≡ sha1 m)
-      → ((ps : List (List ℕ)) (p : List ℕ) → one.tags (took_all one.takes d ps) p ≡ take 4 (sha1 (seed ++ (joined ps ++ p))))
+      → ((ps : List (List ℕ)) (p : List ℕ) → one.tags (took_all one.takes (one.state_of d) ps) p ≡ take 4 (sha1 (seed ++ (joined ps ++ p))))
       → DigestOf s seed (inner.Sha1 d)
   sha1-digest d hash tags = record {
-    tagged = λ ps p. ap (λ (v : DigestState). digest_tags v p) (took-sha1 d ps) ∙ tags ps p ∙ sym (ap (take 4) (hash (seed ++ (joined ps ++ p))));
+    tagged = λ ps p. ap (λ (v : DigestState). digest_tags v p) (took-sha1 (one.state_of d) ps) ∙ tags ps p ∙ sym (ap (take 4) (hash (seed ++ (joined ps ++ p))));
   }
 
   pub sha3-digest : (d : Sha3) → ((m : List ℕ) → suite_hash s m ≡ sha3 m)
-      → ((ps : List (List ℕ)) (p : List ℕ) → three.tags (took_all three.takes d ps) p ≡ take 4 (sha3 (seed ++ (joined ps ++ p))))
+      → ((ps : List (List ℕ)) (p : List ℕ) → three.tags (took_all three.takes (three.state_of d) ps) p ≡ take 4 (sha3 (seed ++ (joined ps ++ p))))
       → DigestOf s seed (inner.Sha3 d)
   sha3-digest d hash tags = record {
-    tagged = λ ps p. ap (λ (v : DigestState). digest_tags v p) (took-sha3 d ps) ∙ tags ps p ∙ sym (ap (take 4) (hash (seed ++ (joined ps ++ p))));
+    tagged = λ ps p. ap (λ (v : DigestState). digest_tags v p) (took-sha3 (three.state_of d) ps) ∙ tags ps p ∙ sym (ap (take 4) (hash (seed ++ (joined ps ++ p))));
   }

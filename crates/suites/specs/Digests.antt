@@ -11,8 +11,8 @@ pub data DigestState : Type 0 where
   in_sha3 : three.Sha3State → DigestState
 
 abbrev pub digest_state : SuiteDigest → DigestState
-digest_state (Sha1 d) = in_sha1 d
-digest_state (Sha3 d) = in_sha3 d
+digest_state (Sha1 d) = in_sha1 (one.state_of d)
+digest_state (Sha3 d) = in_sha3 (three.state_of d)
 
 abbrev pub digest_takes : DigestState → List ℕ → DigestState
 digest_takes (in_sha1 s) p = in_sha1 (one.takes s p)

@@ -1,9 +1,9 @@
 -- The lane of a chunk that is there, and 0 past the block's end.
-use Rattle.std.proofs.Common.{◌≡◌, ℕ, ◌+◌, ◌*◌, ◌^◌, ◌/◌, ◌<◌, ◌≤◌, Bool, true, false, nat_lt, is_some, IfSome, List, length, get_or, arith, Option, Some, None, Bor, MatchOption, rules}
-use Rattle.std.proofs.lemmas.List.{get_or_past}
+use Rattle.std.proofs.Common.{◌≡◌, ℕ, ◌+◌, ◌*◌, ◌^◌, ◌/◌, ◌<◌, Bool, true, false, nat_lt, is_some, IfSome, List, length, get_or, ◌∙◌, arith, Option, Some, None, Bor, MatchOption, rules}
 use Rattle.std.proofs.lemmas.Bool.Decides.{nat_tests}
 use Rattle.hash_blocks.proofs.Chunks.{byte_of_chunk}
 use Rattle.sha3.specs.Sha3.{block_lane}
+use Rattle.sha3.proofs.Ends.{lane_past}
 use Rattle.sha3.proofs.sponge.lane_at.Goals as goal
 
 either : (r lane : ℕ) (below : Bool) (P Q : Bor (List ℕ) → Type 0) (o : Option (Bor (List ℕ))) → is_some o ≡ below → IfSome o P → MatchOption o (r ≡ 0) Q
@@ -32,14 +32,4 @@ returns c =
     let b6 = byte 6 (8 * i + 6) (omega arith) (omega arith) in
     let b7 = byte 7 (8 * i + 7) (omega arith) (omega arith) in
     cc value)
-    (λ gone zero.
-    let past : length bs ≤ 8 * i = grind (arith, nat_tests, gone, c.as_chunks.ensures.front_len, c.told-block) in
-    let b0 = get_or_past bs (8 * i) 0 past in
-    let b1 = get_or_past bs (8 * i + 1) 0 (omega arith) in
-    let b2 = get_or_past bs (8 * i + 2) 0 (omega arith) in
-    let b3 = get_or_past bs (8 * i + 3) 0 (omega arith) in
-    let b4 = get_or_past bs (8 * i + 4) 0 (omega arith) in
-    let b5 = get_or_past bs (8 * i + 5) 0 (omega arith) in
-    let b6 = get_or_past bs (8 * i + 6) 0 (omega arith) in
-    let b7 = get_or_past bs (8 * i + 7) 0 (omega arith) in
-    rw (b0, b1, b2, b3, b4, b5, b6, b7) zero)
+    (λ gone zero. zero ∙ lane_past bs i (grind (arith, nat_tests, gone, c.as_chunks.ensures.front_len, c.told-block)))

@@ -1,11 +1,11 @@
 use Rattle.std.proofs.Common.{◌≡◌, ℕ, List, ap, ◌∙◌}
 use Rattle.hash_blocks.specs.Taking.{took_all}
-use Rattle.sha_1.specs.Digests.{Sha1State, empty, takes, tags}
+use Rattle.sha_1.specs.Digests.{Sha1State, state_of, empty, takes, tags}
 use Rattle.sha_1.proofs.Ends.{took-first, tags-took}
 use Rattle.sha_1.proofs.running.Sha1.seeded.Goals as goal
 
 pub returns-clause-tags : goal.returns-clause-tags
 returns-clause-tags c =
     let seed : List ℕ = c.args.seed.now in
-    let e : c.take.new.self ≡ takes empty seed = c.take.ensures ∙ ap (λ (s : Sha1State). takes s seed) c.empty-digest.ensures in
+    let e : state_of c.take.new.self ≡ takes empty seed = c.take.ensures ∙ ap (λ (s : Sha1State). takes s seed) c.empty-digest.ensures in
     λ ps p. ap (λ (s : Sha1State). tags (took_all takes s ps) p) e ∙ tags-took (takes empty seed) seed (took-first seed) ps p
