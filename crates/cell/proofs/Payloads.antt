@@ -1,5 +1,5 @@
 -- The laws of a payload: reading undoes writing, writing undoes reading, and a tag changes no other field. Crates above read these laws too, so not all of them are cited here.
-use Rattle.std.proofs.Common.{◌≡◌, ℕ, suc, ◌+◌, ◌-◌, ◌*◌, ◌/◌, ◌%◌, ◌<◌, ◌≤◌, List, [], ◌∷◌, ◌++◌, length, get_or, take, drop, replicate, sym, refl, ◌∙◌, arith, length-append}
+use Rattle.std.proofs.Common.{◌≡◌, ℕ, suc, ◌+◌, ◌-◌, ◌*◌, ◌/◌, ◌%◌, ◌<◌, ◌≤◌, List, [], ◌∷◌, ◌++◌, length, get_or, take, drop, replicate, sym, refl, ◌∙◌, arith, length-append, Fits, w8}
 use native.Mathlib.Nat.{div-add-mod}
 use lib.ListN.{length-replicate}
 use Rattle.std.proofs.lemmas.List.{take_at, drop_at, take-append-drop, drop-drop, length-take-le}
@@ -241,3 +241,7 @@ rewritten-same p w =
     let whole : take n q ++ drop n q ≡ q = take-append-drop n q in
     cc)
     p (omega (arith, w.size)) w
+
+-- the same, where all bytes of a slice are known to be below 256
+pub rewritten_bytes : (p : List ℕ) → WrittenPayload p → ((i : ℕ) → Fits w8 (get_or p i 0)) → rewritten p ≡ p
+rewritten_bytes p w bytes = rewritten-same p w (bytes 4).fits (bytes 10).fits

@@ -15,3 +15,6 @@ pub use frame::{Cell, cell_number, read_cell, write_header};
 pub use numbers::UnknownCommand;
 pub use payload::{DataPart, PayloadReader, clear_tag, is_written, set_tag, write_payload};
 pub use sizes::{CELL_SIZE, DATA_LIMIT, HEADER_SIZE, PAYLOAD_SIZE};
+
+#[cfg(test)]
+mod tests;

@@ -106,9 +106,10 @@ impl<'a> PayloadReader<'a> {
 }
 
 /// Whether these bytes are the written form of a message; if so, writing the message anew gives them back.
+#[tactic(auto, using(std::proofs::lemmas::Grind::common_steps, crate::proofs::Payloads::rewritten_bytes))]
 pub fn is_written(payload: &[u8]) -> bool
-    ensures written { result ≡ true → WrittenPayload payload.now }
-    ensures unwritten { result ≡ false → WrittenPayload payload.now → ⊥ }
+    ensures yes { result ≡ true → WrittenPayload payload.now }
+    ensures no { result ≡ false → WrittenPayload payload.now → ⊥ }
     ensures same { result ≡ true → rewritten payload.now ≡ payload.now }
 {
     let Ok(reader) = PayloadReader::new(payload) else {

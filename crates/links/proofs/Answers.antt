@@ -5,7 +5,7 @@ use Rattle.std.proofs.lemmas.Bool.{eq-eqb, lt-ltb, le-ltb, cond-true, cond-false
 use Rattle.std.proofs.lemmas.Grind.{common_steps}
 use Rattle.links.specs.declared.fault.LinkError.{LinkError}
 use Rattle.links.specs.declared.fault.LinkError.TheVariants.{NotACell, Full, Empty}
-use Rattle.links.specs.Lines.{Answer, put_answer, put_cells, look_answer, drop_answer}
+use Rattle.links.specs.Lines.{Answer, put_answer, put_cells, look_answer, looked, drop_answer}
 use Rattle.links.specs.Rows.{known, row, at_link, pass_answer}
 
 ---- what a link answers and leaves, case by case
@@ -27,6 +27,12 @@ module _ (capacity : ℕ) (cells : List (List ℕ)) (cell : List ℕ) (whole : l
       (sym (put-now ∙ cond-false _ (Ok tt) (Err Full) full), sym (puts-now ∙ cond-false _ (cells ++ (cell ∷ [])) cells full))
 
 module _ (cells : List (List ℕ)) (buffer : List ℕ) (whole : length buffer ≡ 514) where
+  pub look-some : 0 < length cells → (Ok tt ≡ look_answer cells buffer) × (get_or cells 0 buffer ≡ looked cells buffer)
+  look-some lt =
+      let w = eq-eqb (length buffer) 514 whole in
+      let some = lt-ltb 0 (length cells) lt in
+      (rw (w, some) refl, rw w refl)
+
   pub look-by : {A : Type 0} (B : LinkError → Type 0) (r : Answer) → (A → 0 < length cells) → ((e : LinkError) → B e → (length cells ≡ 0) × (e ≡ Empty)) → MatchResult r (λ _. A) B → r ≡ look_answer cells buffer
   look-by B (Ok x) some none met =
       let w = eq-eqb (length buffer) 514 whole in
@@ -50,11 +56,18 @@ put-kept false room ok more same e = rw (← e) refl
 
 -- a cell that was put waits behind the others, and one that was refused does not
 module _ (capacity : ℕ) (cells : List (List ℕ)) (cell : List ℕ) where
-  pub put-joins : is_ok (put_answer capacity cells cell) ≡ true → put_cells capacity cells cell ≡ cells ++ (cell ∷ [])
-  put-joins = put-kept (eqb (length cell) 514) (ltb (length cells) capacity) true (cells ++ (cell ∷ [])) cells
+  pub put-ok-joins : is_ok (put_answer capacity cells cell) ≡ true → put_cells capacity cells cell ≡ cells ++ (cell ∷ [])
+  put-ok-joins = put-kept (eqb (length cell) 514) (ltb (length cells) capacity) true (cells ++ (cell ∷ [])) cells
 
-  pub put-keeps : is_ok (put_answer capacity cells cell) ≡ false → put_cells capacity cells cell ≡ cells
-  put-keeps = put-kept (eqb (length cell) 514) (ltb (length cells) capacity) false (cells ++ (cell ∷ [])) cells
+  pub put-err-keeps : is_ok (put_answer capacity cells cell) ≡ false → put_cells capacity cells cell ≡ cells
+  put-err-keeps = put-kept (eqb (length cell) 514) (ltb (length cells) capacity) false (cells ++ (cell ∷ [])) cells
+
+  -- the same, by the answer
+  pub put-joins : Ok tt ≡ put_answer capacity cells cell → put_cells capacity cells cell ≡ cells ++ (cell ∷ [])
+  put-joins e = put-ok-joins (ap is_ok (sym e))
+
+  pub put_keeps : (e : LinkError) → Err e ≡ put_answer capacity cells cell → put_cells capacity cells cell ≡ cells
+  put_keeps x e = put-err-keeps (ap is_ok (sym e))
 
 pub is-ok-unit : {E : Type 0} (r : Result (Unit {0}) E) → is_ok r ≡ true → r ≡ Ok tt
 is-ok-unit (Ok x) e = refl

@@ -1,5 +1,5 @@
 //! Both kinds of link beside a plain list, by the same text.
-use crate::{ByteLink, CellLink, Link, LinkError, oldest, pass_on};
+use crate::{ByteLink, CellLink, Link, LinkError, LinkFault, NewLinkError, oldest, pass_on};
 use std::alloc::Global;
 use std::process::Abort;
 use std::test::Fail;
@@ -89,5 +89,35 @@ fn row(rt: HostRuntime) -> Result<(), Fail> {
     assert!(rt; pass_on(&mut links, 1, 2, &cell).is_ok());
     assert!(rt; oldest(&links, 1, &mut cell).is_err() && oldest(&links, 2, &mut cell).is_ok());
     assert_eq!(rt; links[1].count(), 1);
+    Ok(())
+}
+
+#[test]
+fn printed(rt: HostRuntime) -> Result<(), Fail> {
+    for (error, text) in [
+        (LinkError::NotACell, "not a cell of 514 bytes"),
+        (LinkError::Full, "as many cells wait as the link takes"),
+        (LinkError::Empty, "no cell waits"),
+        (LinkError::NoSuchLink, "no link has this number"),
+    ] {
+        assert_eq!(rt; format!(in rt.alloc(); "{error}")?.as_str(), text);
+    }
+    let fault = LinkFault {
+        at: 7,
+        error: LinkError::Empty,
+    };
+    assert_eq!(rt;
+        format!(in rt.alloc(); "{fault}")?.as_str(),
+        "link 7: no cell waits"
+    );
+    for (error, text) in [
+        (
+            NewLinkError::Capacity,
+            "no link of this kind has this capacity",
+        ),
+        (NewLinkError::Memory, "out of memory"),
+    ] {
+        assert_eq!(rt; format!(in rt.alloc(); "{error}")?.as_str(), text);
+    }
     Ok(())
 }

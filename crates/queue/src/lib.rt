@@ -11,6 +11,9 @@ mod place;
 
 pub use place::{Place, QueueError};
 
+#[cfg(test)]
+mod tests;
+
 fn is_within(place: Place, size: usize) -> bool
     ensures { result ≡ within size place }
 {

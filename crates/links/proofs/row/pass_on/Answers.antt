@@ -3,7 +3,7 @@ use Rattle.std.proofs.lemmas.List.{length-set, length-append, get_or-map}
 use Rattle.links.specs.Lines.{put_answer}
 use Rattle.links.specs.Rows.{rows, capacities, row, at_link, joined}
 use Rattle.links.proofs.Views.{row-set, row_same}
-use Rattle.links.proofs.Answers.{seen, known-seen, put-joins, put-keeps, is-ok-unit, when_ok, joined-some, drop-some, pass-put}
+use Rattle.links.proofs.Answers.{seen, known-seen, put-ok-joins, put-err-keeps, is-ok-unit, when_ok, joined-some, drop-some, pass-put}
 use Rattle.links.proofs.row.pass_on.Goals as goal
 
 pub returns-in_err-map_err-2-clause-after : goal.returns-in_err-map_err-2-clause-after
@@ -16,7 +16,7 @@ returns-in_err-map_err-2-clause-after g c =
     let refused : is_ok (put_answer (m.capacity old) (m.cells old) c.args.cell.now) ≡ false =
     ap is_ok (sym c.put.ensures.answer) ∙ sym c.map_err-2.ensures.variant ∙ ap is_ok c.in_err-map_err-2.was in
     let none : is_ok c.from_residual-in_err-map_err-2.result ≡ false = search rules in
-    rw none (row_same m.cells [] ls t y c.put.new.self c.in_ok-target.ensures.2 (c.put.ensures.after ∙ put-keeps (m.capacity old) (m.cells old) c.args.cell.now refused))
+    rw none (row_same m.cells [] ls t y c.put.new.self c.in_ok-target.ensures.2 (c.put.ensures.after ∙ put-err-keeps (m.capacity old) (m.cells old) c.args.cell.now refused))
 
 pub returns-in_err-map_err-2-clause-fixed : goal.returns-in_err-map_err-2-clause-fixed
 returns-in_err-map_err-2-clause-fixed g c =
@@ -49,7 +49,7 @@ returns g c =
     let old = get_or ls t y in
     let put_ok : is_ok (put_answer (m.capacity old) (m.cells old) cell) ≡ true =
     ap is_ok (sym c.put.ensures.answer) ∙ sym c.map_err-2.ensures.variant ∙ ap is_ok c.in_ok-map_err-2.was in
-    let put_is : m.cells z ≡ m.cells old ++ (cell ∷ []) = c.put.ensures.after ∙ put-joins (m.capacity old) (m.cells old) cell put_ok in
+    let put_is : m.cells z ≡ m.cells old ++ (cell ∷ []) = c.put.ensures.after ∙ put-ok-joins (m.capacity old) (m.cells old) cell put_ok in
     let one : rows m last ≡ joined rs to cell =
     row-set m.cells [] ls t y z f.2 (λ v. v ++ (cell ∷ [])) put_is ∙ ap (λ n. set rs n (get_or rs n [] ++ (cell ∷ []))) f.1 in
     let lt : s < length last = rw (length-set ls t z) e.2 in
