@@ -29,7 +29,7 @@ module _ {S : Type 0} (tags : S → List ℕ → List ℕ) (s : S) (p : List ℕ
   unfolding recognises
   checked e = rest (eqb (length p) 509) (eqb (recognised_of p) 0) (same (tag_of p) (tags s (zeroed p))) e
 
-abbrev word : List ℕ → ℕ
+abbrev pub word : List ℕ → ℕ
 word t = get_or t 0 0 * 16777216 + get_or t 1 0 * 65536 + get_or t 2 0 * 256 + get_or t 3 0
 
 -- four bytes are the same exactly if the words that they write are

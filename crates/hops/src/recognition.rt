@@ -70,6 +70,10 @@ impl<C: Cipher, D: Digest + Drop> End<C, D> {
         ensures sealed { payload.new ≡ (if is_ok result then sealed_by (rules C.Cipher D.Digest) (D.Digest.state self.now.digest) payload.old else payload.old) }
         ensures taken { IfOk result (λ d. D.Digest.state d ≡ D.Digest.takes (D.Digest.state self.now.digest) payload.old) }
     {
+        // First the length: a digest would hash a payload of any, however long, before `set_tag` refuses it.
+        if payload.len() != PAYLOAD_SIZE {
+            return Err(CellError::Length);
+        }
         let trial = self.digest.trial(payload);
         set_tag(payload, trial.tag)?;
         Ok(trial.taken)

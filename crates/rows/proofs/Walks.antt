@@ -1,8 +1,8 @@
 -- Walks along a row of ends, place by place: what loops over a slice of ends give.
-use Rattle.std.proofs.Common.{◌≡◌, ℕ, zero, suc, ◌+◌, ◌<◌, ◌≤◌, Bool, true, false, cond, not, ◌||◌, ltb, leb, List, [], ◌∷◌, map, length, get_or, drop, set, Some, None, Option, sym, refl, ap, ◌∙◌, arith}
+use Rattle.std.proofs.Common.{◌≡◌, ℕ, zero, suc, ◌+◌, ◌-◌, ◌^◌, ◌<◌, ◌≤◌, min, Bool, true, false, cond, not, ◌||◌, ltb, leb, List, [], ◌∷◌, map, length, get_or, take, drop, set, Some, None, Option, is_some, sym, refl, ap, ◌∙◌, arith}
 use Rattle.std.proofs.lemmas.Bool.{or_parts, and_from, not_from_false, lt-ltb, eq-eqb}
 use Rattle.std.proofs.lemmas.Bool.Decides.{nat_tests}
-use Rattle.std.proofs.lemmas.List.{get_or-map, drop_more, length-map}
+use Rattle.std.proofs.lemmas.List.{get_or-map, drop_more, length-map, take-map}
 use Rattle.std.specs.List.{position, position_or_len}
 use Rattle.model.specs.Lists.{nth}
 use Rattle.model.specs.Ends.{Rules, End, layer_limit, recognises, further, worn_out, worn_at, moved, moved_to, advanced, recognised_at, unwrapped}
@@ -48,6 +48,15 @@ up-to-more true o d = grind (arith, nat_tests)
 up-to-more false None d = refl
 up-to-more false (Some k) d = grind (arith, nat_tests)
 
+some-alone : (t : Bool) → is_some {T = ℕ} (cond t (Some 0) None) ≡ t
+some-alone true = refl
+some-alone false = refl
+
+some-more : (t : Bool) (o : Option ℕ) → is_some {T = ℕ} (cond t (Some 0) (further o)) ≡ (t || is_some o)
+some-more true o = refl
+some-more false None = refl
+some-more false (Some k) = refl
+
 first-of : (t : Bool) (p n : ℕ) → cond (ltb (cond (not t) (1 + p) 0) (suc n)) (Some (cond (not t) (1 + p) 0)) None ≡ cond t (Some 0) (further (cond (ltb p n) (Some p) None))
 first-of true p n = grind (arith, nat_tests)
 first-of false p n = grind (arith, nat_tests)
@@ -59,6 +68,20 @@ module _ {K S : Type 0} where
   worn_up_to [] d = refl
   worn_up_to (e ∷ es) zero = sym (up-to-none (leb layer_limit e.layer) (worn_at es))
   worn_up_to (e ∷ es) (suc d) = ap (λ b. leb layer_limit e.layer || b) (worn_up_to es d) ∙ sym (up-to-more (leb layer_limit e.layer) (worn_at es) d)
+
+  -- and exactly if there is one among the first d + 1 ends, or among all where there are fewer
+  worn-among : (es : List (End K S)) (d n : ℕ) → n ≡ min (length es) (suc d) → is_some {T = ℕ} (worn_at (take n es)) ≡ worn_out es d
+  worn-among [] d n h = let z : n ≡ 0 = omega (arith, h) in rw z refl
+  worn-among (e ∷ es) zero n h = let z : n ≡ 1 = omega (arith, h) in rw z (some-alone (leb layer_limit e.layer))
+  worn-among (e ∷ es) (suc d) n h =
+      let z : n ≡ suc (min (length es) (suc d)) = omega (arith, h) in
+      rw z (some-more (leb layer_limit e.layer) (worn_at (take (min (length es) (suc d)) es)) ∙ ap (λ b. leb layer_limit e.layer || b) (worn-among es d (min (length es) (suc d)) refl))
+
+  pub worn_near : {A : Type 0} (f : A → End K S) (xs : List A) (d : ℕ) → length xs ≤ 2 ^ 64 - 1
+      → is_some {T = ℕ} (worn_at (map f (take (min (length xs) (min (d + 1) (2 ^ 64 - 1))) xs))) ≡ worn_out (map f xs) d
+  worn_near f xs d l =
+      let n = min (length xs) (min (d + 1) (2 ^ 64 - 1)) in
+      ap (λ v. is_some (worn_at v)) (sym (take-map f n xs)) ∙ worn-among (map f xs) d n (omega (arith, length-map xs f, l))
 
   -- the first end that is worn out, as a search finds it
   pub worn-position : {A : Type 0} (f : A → End K S) (xs : List A) → position (λ x. leb layer_limit (f x).layer) xs ≡ worn_at (map f xs)

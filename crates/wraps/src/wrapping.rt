@@ -2,7 +2,6 @@
 ghost use Rattle.std.specs.Prelude.{◌≡◌, ℕ, ◌+◌, ◌-◌, ◌<◌, ◌&&◌, map, length, drop, IfErr, Some, None, MatchResult, ◌==◌};
 ghost use Rattle.model.specs.Ends.{advanced, recognises};
 ghost use Rattle.hops.specs.Views.{rules, end_seen};
-ghost use Rattle.rows.specs.Views.{row_seen};
 ghost use Rattle.rows.specs.Rows.{advanced_to, Before};
 ghost use Rattle.wraps.specs.Wraps.{from, Nearer, layered, taken_at, wrap_refusal, wrap_left};
 
@@ -10,23 +9,21 @@ use crate::error::WrapError;
 use crypto::cipher::Cipher;
 use crypto::digest::Digest;
 use hops::End;
-use rows::Row;
 
 /// Seals a payload whose tag is zero for the end at place d, and adds the layers of the ends d to 0. The answer is the digest of
 /// that end as it is once the payload is sent. A payload that a nearer end would take for its own is refused.
 pub fn wrap<C: Cipher, D: Digest + Drop>(
-    row: &Row<C, D>,
+    ends: &[End<C, D>],
     d: usize,
     payload: &mut [u8],
 ) -> Result<D, WrapError>
     ensures answer { MatchResult result
-        (λ t. (wrap_refusal (rules C.Cipher D.Digest) (row_seen D.Digest row.now) d payload.old ≡ None)
-        × (advanced_to (row_seen D.Digest row.now) d (D.Digest.state t) ≡ advanced (rules C.Cipher D.Digest) (row_seen D.Digest row.now) d payload.old))
-        (λ e. wrap_refusal (rules C.Cipher D.Digest) (row_seen D.Digest row.now) d payload.old ≡ Some e) }
+        (λ t. (wrap_refusal (rules C.Cipher D.Digest) (map (end_seen D.Digest) ends.now) d payload.old ≡ None)
+        × (advanced_to (map (end_seen D.Digest) ends.now) d (D.Digest.state t) ≡ advanced (rules C.Cipher D.Digest) (map (end_seen D.Digest) ends.now) d payload.old))
+        (λ e. wrap_refusal (rules C.Cipher D.Digest) (map (end_seen D.Digest) ends.now) d payload.old ≡ Some e) }
     ensures nearer { IfErr result (λ e. Nearer d e) }
-    ensures layers { payload.new ≡ wrap_left (rules C.Cipher D.Digest) (row_seen D.Digest row.now) d payload.old }
+    ensures layers { payload.new ≡ wrap_left (rules C.Cipher D.Digest) (map (end_seen D.Digest) ends.now) d payload.old }
 {
-    let ends = row.ends();
     let end = ends.get(d).ok_or(WrapError::NoSuchHop)?;
     // No `From<CellError>`: of a cell's three refusals sealing gives the length alone.
     let taken = end.seal(payload).map_err(|_| WrapError::Length)?;

@@ -1,5 +1,5 @@
 -- One layer less with each turn, until a test passes or no end is left.
-use Rattle.std.proofs.Common.{◌≡◌, ◌+◌, ◌<◌, true, false, ◌&&◌, eqb, [], map, length, get_or, drop, is_some, IfSome, Some, None, Option, vec_items, sym, ap, ◌∙◌, subst, arith}
+use Rattle.std.proofs.Common.{◌≡◌, ◌+◌, ◌<◌, true, false, ◌&&◌, eqb, [], map, length, get_or, drop, is_some, IfSome, Some, None, Option, sym, ap, ◌∙◌, subst, arith}
 use Rattle.std.proofs.lemmas.List.{length-map, drop_all}
 use Rattle.cell.specs.Payload.{zeroed}
 use Rattle.model.specs.Lists.{nth}
@@ -7,21 +7,21 @@ use Rattle.model.specs.Ends.{recognises, recognised_at, unwrapped}
 use Rattle.hops.specs.Views.{rules, end_seen}
 use Rattle.hops.proofs.Tests.{at_length, unchecked, checked}
 use Rattle.rows.proofs.Walks.{past, past-nowhere, nth_read, drop-read, unwrap-step, seek-step, advanced-to, found-is, left_is}
-use Rattle.rows.proofs.row.Row.seek.Goals as goal
-use Rattle.rows.proofs.row.Row.seek.Goals.{then-test, else-test}
+use Rattle.rows.proofs.ends.seek.Goals as goal
+use Rattle.rows.proofs.ends.seek.Goals.{then-test, else-test}
 
 pub loop-j-preserved : goal.loop-j-preserved
 loop-j-preserved g c =
     let R = rules g.C.Cipher g.D.Digest in
     let f = end_seen {C = g.row.C.Denot} g.D.Digest in
-    let xs = vec_items c.args.self.now.ends in
+    let xs = c.args.ends.now in
     let es = map f xs in
     let j = c.loop-j.j in
-    let e = c.end-item.result in
+    let e = c.index-ends-j.result in
     let q = c.loop-j.payload in
     let p = c.remove_layer.new.payload in
     let lt : j < length xs = omega arith in
-    let is : e ≡ get_or xs j e = c.end-item.is ∙ ap (λ v. get_or v j e) c.deref-end-items.ensures.value in
+    let is : e ≡ get_or xs j e = c.index-ends-j.is in
     let off : p ≡ R.removed (f e).cipher (f e).layer q = c.remove_layer.ensures in
     let long : length p ≡ 509 = omega arith in
     let test : is_some c.if-test.passed ≡ (eqb (length p) 509 && recognises R.tags (f e).digest p) =
@@ -40,7 +40,7 @@ pub returns-after-loop-j : goal.returns-after-loop-j
 returns-after-loop-j g c =
     let R = rules g.C.Cipher g.D.Digest in
     let f = end_seen {C = g.row.C.Denot} g.D.Digest in
-    let xs = vec_items c.args.self.now.ends in
+    let xs = c.args.ends.now in
     let es = map f xs in
     let p = c.args.payload.now in
     let j = c.loop-j.j in
@@ -58,14 +58,14 @@ pub returns-in-Some : goal.returns-in-Some
 returns-in-Some g c =
     let R = rules g.C.Cipher g.D.Digest in
     let f = end_seen {C = g.row.C.Denot} g.D.Digest in
-    let xs = vec_items c.args.self.now.ends in
+    let xs = c.args.ends.now in
     let es = map f xs in
     let j = c.loop-j.j in
-    let e = c.end-item.result in
+    let e = c.index-ends-j.result in
     let q = c.loop-j.payload in
     let p = c.remove_layer.new.payload in
     let lt : j < length xs = omega arith in
-    let is : e ≡ get_or xs j e = c.end-item.is ∙ ap (λ v. get_or v j e) c.deref-end-items.ensures.value in
+    let is : e ≡ get_or xs j e = c.index-ends-j.is in
     let off : p ≡ R.removed (f e).cipher (f e).layer q = c.remove_layer.ensures in
     let long : length p ≡ 509 = omega arith in
     let test : is_some c.if-test.passed ≡ (eqb (length p) 509 && recognises R.tags (f e).digest p) =

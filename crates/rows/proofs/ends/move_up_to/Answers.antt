@@ -7,7 +7,7 @@ use Rattle.model.specs.Ends.{layer_limit, moved_to, moved}
 use Rattle.hops.specs.declared.end.End.{End}
 use Rattle.hops.specs.Views.{end_seen}
 use Rattle.rows.proofs.Walks.{nth_read, nth-moved, move_step, fresh_at}
-use Rattle.rows.proofs.row.move_up_to.Goals as goal
+use Rattle.rows.proofs.ends.move_up_to.Goals as goal
 
 pub loop-end-preserved : goal.loop-end-preserved
 loop-end-preserved g c =
