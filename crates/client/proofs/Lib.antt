@@ -1,2 +1,2 @@
-mod Sends
-mod Finds
+pub mod Sends
+pub mod Finds

@@ -1,5 +1,5 @@
 -- What a client's sending answers, by the tests that the code makes.
-use Rattle.std.proofs.Common.{◌≡◌, ℕ, ◌<◌, ◌≤◌, true, ◌&&◌, eqb, ltb, leb, List, Ok, Err, Result, sym, subst, arith}
+use Rattle.std.proofs.Common.{◌≡◌, ℕ, zero, suc, ◌<◌, ◌≤◌, true, ◌&&◌, eqb, ltb, leb, List, ◌∷◌, map, replicate, Ok, Err, Result, refl, sym, ap, subst, arith}
 use Rattle.std.specs.Result.{MatchResult, IsErr, IsErrAnd}
 use Rattle.std.proofs.lemmas.Bool.{and_parts, ltb-true, leb-true, eqb-true}
 use Rattle.model.specs.Ends.{End}
@@ -8,6 +8,10 @@ use Rattle.model.specs.Streams.{Streams}
 use Rattle.model.specs.Circuit.{Client}
 use Rattle.client.specs.declared.faults.OpenError.{OpenError}
 use Rattle.client.specs.declared.faults.OpenError.TheVariants.{Memory}
+
+pub map-replicate : {X Y : Type 0} (f : X → Y) (n : ℕ) (x : X) → map f (replicate n x) ≡ replicate n (f x)
+map-replicate f zero x = refl
+map-replicate f (suc n) x = ap (λ v. f x ∷ v) (map-replicate f n x)
 
 -- the numbers of hops that a client may have, as the code tests them
 pub hops-met : (n forward back w : ℕ) → n ≡ forward → w ≡ back → (ltb 0 n && (leb n 8 && eqb w n)) ≡ true → (0 < forward) × (forward ≤ 8) × (back ≡ forward)

@@ -1,8 +1,8 @@
 -- What a client of the code means, and why none is made.
-use Rattle.std.specs.Prelude.{◌≡◌, ℕ, ◌<◌, ◌≤◌, Some, None, vec_items, Option}
+use Rattle.std.specs.Prelude.{◌≡◌, ℕ, ◌<◌, ◌≤◌, map, Some, None, vec_items, Option}
 use Rattle.crypto.specs.declared.digest.Digest as digest
 use Rattle.model.specs.Circuit as model
-use Rattle.streams.specs.Views.{streams_seen}
+use Rattle.streams.specs.Views.{flow_seen, streams_seen}
 use Rattle.rows.specs.Views.{row_len, row_seen}
 use Rattle.client.specs.declared.parts.Client.{Client}
 use Rattle.client.specs.declared.faults.OpenError.{OpenError}
@@ -10,7 +10,7 @@ use Rattle.client.specs.declared.faults.OpenError.TheVariants.{Hops, Memory}
 
 abbrev pub client_seen : {C D : Type 0} → (d : digest.Ghosts D) → Client C D → model.Client C d.State
 client_seen d c =
-    record { forward = row_seen d c.forward; backward = row_seen d c.backward; flows = vec_items c.flows; streams = streams_seen c.streams }
+    record { forward = row_seen d c.forward; backward = row_seen d c.backward; flows = map flow_seen (vec_items c.flows); streams = streams_seen c.streams }
 
 -- a client that means this now, with as many hops as before
 pub record Becomes {C D : Type 0} (d : digest.Ghosts D) (was c : Client C D) (next : model.Client C d.State) : Type 0 where

@@ -8,6 +8,7 @@ ghost use Rattle.model.specs.Calls.{flow_at};
 ghost use Rattle.rows.specs.Views.{row_len};
 ghost use Rattle.rows.specs.Rows.{advanced_to};
 ghost use Rattle.hops.specs.Views.{rules};
+ghost use Rattle.streams.specs.Views.{flow_seen};
 ghost use Rattle.messages.specs.Sending.{sending};
 ghost use Rattle.messages.specs.Answers.{unless_coincides, if_room, send_answer, if_sent};
 ghost use Rattle.client.specs.Views.{client_seen, Becomes};
@@ -53,7 +54,7 @@ impl<C: Cipher, D: Digest + Drop> Client<C, D> {
     // What is counted for the hop at place d.
     pub(crate) fn flow(&self, d: usize) -> Flow
         requires { d < row_len self.now.forward }
-        ensures { result ≡ flow_at (rules C.Cipher D.Digest) (client_seen D.Digest self.now) d }
+        ensures { flow_seen result ≡ flow_at (rules C.Cipher D.Digest) (client_seen D.Digest self.now) d }
     {
         self.flows[d]
     }
@@ -72,7 +73,7 @@ impl<C: Cipher, D: Digest + Drop> Client<C, D> {
         requires command { command_byte cleared.command ≡ message.now.command }
         requires unworn { worn_out (client_seen D.Digest self.old).forward d ≡ false }
         ensures answer { result ≡ if_room room (coincidence (rules C.Cipher D.Digest) (client_seen D.Digest self.old).forward d (blank message.now)) }
-        ensures client { Becomes D.Digest self.old self.new (if_sent result (sent_by (rules C.Cipher D.Digest) (client_seen D.Digest self.old) d cleared.flow message.now) (client_seen D.Digest self.old)) }
+        ensures client { Becomes D.Digest self.old self.new (if_sent result (sent_by (rules C.Cipher D.Digest) (client_seen D.Digest self.old) d (flow_seen cleared.flow) message.now) (client_seen D.Digest self.old)) }
         ensures payload { payload.new ≡ if_sent result (wrapped (rules C.Cipher D.Digest) (client_seen D.Digest self.old).forward d (blank message.now)) payload.old }
     {
         if room {
@@ -120,7 +121,7 @@ impl<C: Cipher, D: Digest + Drop> Client<C, D> {
         ensures client { Becomes D.Digest self.old self.new (record {
           forward = advanced_to (client_seen D.Digest self.old).forward d (D.Digest.state taken);
           backward = (client_seen D.Digest self.old).backward;
-          flows = slice_set (client_seen D.Digest self.old).flows d cleared.flow;
+          flows = slice_set (client_seen D.Digest self.old).flows d (flow_seen cleared.flow);
           streams = or_unchanged (client_seen D.Digest self.old).streams (client_sends (d + 1) (command_byte cleared.command) message.now.stream (client_seen D.Digest self.old).streams);
         }) }
     {

@@ -1,4 +1,5 @@
 mod Results
-mod Known
-mod Formed
+pub mod Known
+pub mod Formed
 mod Arriving
+pub mod Refusing

@@ -2,6 +2,7 @@
 ghost use Rattle.std.specs.Prelude.{◌≡◌, false, Some, None, MatchResult, nat_le, nat_lt};
 ghost use Rattle.model.specs.Messages.{sendme};
 ghost use Rattle.model.specs.Flows.{step, message_limit, posted, acknowledged};
+ghost use Rattle.streams.specs.Views.{flow_seen};
 ghost use Rattle.messages.specs.Faults.{fault_by};
 ghost use Rattle.messages.specs.Refusals.{exhausted as used, message_refusal, sendme_refusal};
 ghost use Rattle.messages.specs.Sending.{sending, MaySend, MayAcknowledge};
@@ -68,9 +69,9 @@ impl Sender<'_> {
 
 // 100 DATA are acknowledged, and one SENDME is sent.
 fn after_sendme(flow: Flow) -> Flow
-    requires due { nat_lt flow.unacknowledged step ≡ false }
-    requires unspent { nat_le message_limit flow.sent ≡ false }
-    ensures { result ≡ posted sendme.command (acknowledged flow) }
+    requires due { nat_lt (flow_seen flow).unacknowledged step ≡ false }
+    requires unspent { nat_le message_limit (flow_seen flow).sent ≡ false }
+    ensures { flow_seen result ≡ posted sendme.command (acknowledged (flow_seen flow)) }
 {
     let mut next = flow;
     next.acknowledged();

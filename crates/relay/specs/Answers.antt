@@ -10,7 +10,7 @@ use Rattle.model.specs.Streams.{or_unchanged, relay_sends}
 use Rattle.model.specs.Circuit as model
 use Rattle.model.specs.Calls.{refusal, Outcome, stops, passes_on, delivers, relay_outcome, relay_removes, relay_passed, relay_took, relay_send_refusal, relay_sent, relay_adds, relay_acknowledge_refusal}
 use Rattle.cell.specs.declared.command.Way.TheVariants.{Backward}
-use Rattle.streams.specs.Views.{streams_seen}
+use Rattle.streams.specs.Views.{flow_seen, streams_seen}
 use Rattle.hops.specs.Views.{rules}
 use Rattle.messages.specs.declared.faults.EndFault.{EndFault}
 use Rattle.messages.specs.Faults.{fault_of}
@@ -54,7 +54,7 @@ sent_by R r k f m = record { forward = r.forward; backward = took R r.backward (
 
 -- what the rules look at
 abbrev pub sender_of : {C D : Type 0} → Relay C D → Sending
-sender_of r = record { way = Backward; hop = r.hop; flow = r.flow; worn = nat_le layer_limit r.backward.layer; streams = streams_seen r.streams }
+sender_of r = record { way = Backward; hop = r.hop; flow = flow_seen r.flow; worn = nat_le layer_limit r.backward.layer; streams = streams_seen r.streams }
 
 module _ {C D : Type 0} (c : cipher.Ghosts C) (d : digest.Ghosts D) where
   abbrev pub bared : Relay C D → List ℕ → List ℕ

@@ -2,12 +2,12 @@
 use Rattle.std.specs.Prelude.{◌≡◌}
 use Rattle.crypto.specs.declared.digest.Digest as digest
 use Rattle.model.specs.Circuit as model
-use Rattle.streams.specs.Views.{streams_seen}
+use Rattle.streams.specs.Views.{flow_seen, streams_seen}
 use Rattle.hops.specs.Views.{end_seen}
 use Rattle.relay.specs.declared.parts.Relay.{Relay}
 
 abbrev pub relay_seen : {C D : Type 0} → (d : digest.Ghosts D) → Relay C D → model.Relay C d.State
-relay_seen d r = record { forward = end_seen d r.forward; backward = end_seen d r.backward; flow = r.flow; streams = streams_seen r.streams }
+relay_seen d r = record { forward = end_seen d r.forward; backward = end_seen d r.backward; flow = flow_seen r.flow; streams = streams_seen r.streams }
 
 -- a relay's hop and whether it is the last never change
 abbrev pub Stays : {C D : Type 0} → Relay C D → Relay C D → Type 0

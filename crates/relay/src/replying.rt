@@ -6,6 +6,7 @@ ghost use Rattle.model.specs.Messages.{sendme};
 ghost use Rattle.model.specs.Ends.{layer_limit};
 ghost use Rattle.model.specs.Calls.{relay_adds, relay_added};
 ghost use Rattle.hops.specs.Views.{rules};
+ghost use Rattle.streams.specs.Views.{flow_seen};
 ghost use Rattle.messages.specs.Sending.{sending};
 ghost use Rattle.messages.specs.Answers.{alone, if_sent};
 ghost use Rattle.relay.specs.Views.{relay_seen, Becomes};
@@ -117,7 +118,7 @@ impl<C: Cipher, D: Digest + Drop> Relay<C, D> {
         requires fits { length message.now.content ≤ 498 }
         requires command { command_byte cleared.command ≡ message.now.command }
         requires unworn { nat_le layer_limit self.old.backward.layer ≡ false }
-        ensures relay { Becomes D.Digest self.old self.new (sent_by (rules C.Cipher D.Digest) (relay_seen D.Digest self.old) self.old.hop cleared.flow message.now) }
+        ensures relay { Becomes D.Digest self.old self.new (sent_by (rules C.Cipher D.Digest) (relay_seen D.Digest self.old) self.old.hop (flow_seen cleared.flow) message.now) }
         ensures payload { payload.new ≡ reply_payload C.Cipher D.Digest self.old message.now }
     {
         write_payload(payload, cleared.command, message.stream, message.content).unwrap();

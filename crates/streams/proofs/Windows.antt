@@ -7,6 +7,8 @@ use Rattle.std.proofs.lemmas.Bool.Decides.{nat_tests}
 use Rattle.model.specs.Messages.{is_data, is_sendme}
 use Rattle.model.specs.Flows as flows
 use Rattle.model.specs.Flows.{overruns}
+use Rattle.streams.specs.declared.types.Flow.{Flow}
+use Rattle.streams.specs.Views.{flow_seen}
 
 pub other_data : (c : Command) → (c ≡ Data → ⊥) → 0 ≡ is_data (command_byte c)
 unfolding is_data
@@ -27,7 +29,7 @@ other_sendme Sendme ne = absurd (ne refl)
 other_sendme Drop ne = refl
 
 -- what does not overrun leaves both counts at 1,000 or below
-pub fits-unless : (c : Command) (f : flows.Flow) → f.window ≤ 1000 → f.unacknowledged ≤ 1000 → false ≡ overruns (command_byte c) f
+fits-unless : (c : Command) (f : flows.Flow) → f.window ≤ 1000 → f.unacknowledged ≤ 1000 → false ≡ overruns (command_byte c) f
     → (f.window + 100 * is_sendme (command_byte c) ≤ 1000) × (f.unacknowledged + is_data (command_byte c) ≤ 1000)
 unfolding overruns is_data is_sendme
 fits-unless Begin f w u e = (omega arith, omega arith)
@@ -36,3 +38,7 @@ fits-unless End f w u e = (omega arith, omega arith)
 fits-unless Connected f w u e = (omega arith, omega arith)
 fits-unless Sendme f w u e = (grind (arith, nat_tests), omega arith)
 fits-unless Drop f w u e = (omega arith, omega arith)
+
+pub received-fits : (c : Command) (f : Flow) → false ≡ overruns (command_byte c) (flow_seen f)
+    → (f.window + 100 * is_sendme (command_byte c) ≤ 1000) × (f.unacknowledged + is_data (command_byte c) ≤ 1000)
+received-fits c f = fits-unless c (flow_seen f) f.small.0 f.small.1

@@ -4,3 +4,4 @@ pub mod Begins
 pub mod Order
 pub mod Points
 pub mod Marks
+pub mod Counts

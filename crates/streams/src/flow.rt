@@ -3,6 +3,8 @@ ghost use Rattle.std.specs.Prelude.{◌≡◌, ◌-◌, ◌*◌, ◌≤◌, not,
 ghost use Rattle.cell.specs.Commands.{command_byte};
 ghost use Rattle.model.specs.Messages.{is_data, is_sendme};
 ghost use Rattle.model.specs.Flows.{step, window_start, message_limit, posted as after_posted, received as after_received, acknowledged as after_acknowledged, overruns as too_many};
+ghost use Rattle.streams.specs.Views.{flow_seen};
+ghost use Rattle.streams.specs.Counts.{Within};
 
 use crate::types::{Flow, MESSAGE_LIMIT, STEP, WINDOW_START};
 use cell::Command;
@@ -10,21 +12,24 @@ use cell::Command;
 impl Flow {
     /// Whether the window lets a command be sent: only DATA needs one.
     pub fn window_allows(&self, command: Command) -> bool
-        ensures { result ≡ not (nat_lt self.now.window (is_data (command_byte command))) }
+        ensures answer { result ≡ not (nat_lt (flow_seen self.now).window (is_data (command_byte command))) }
+        ensures within { Within (flow_seen self.now) }
     {
         data_count(command) <= self.window
     }
 
     /// Whether this end sent all the messages that it may ever send.
     pub fn spent(&self) -> bool
-        ensures { result ≡ nat_le message_limit self.now.sent }
+        ensures answer { result ≡ nat_le message_limit (flow_seen self.now).sent }
+        ensures within { Within (flow_seen self.now) }
     {
         self.sent >= MESSAGE_LIMIT
     }
 
     /// Whether enough DATA is unacknowledged for one acknowledgement.
     pub fn due(&self) -> bool
-        ensures { result ≡ not (nat_lt self.now.unacknowledged step) }
+        ensures answer { result ≡ not (nat_lt (flow_seen self.now).unacknowledged step) }
+        ensures within { Within (flow_seen self.now) }
     {
         self.unacknowledged >= STEP
     }
@@ -32,7 +37,8 @@ impl Flow {
     /// Whether the other end sent more than its window, or acknowledged more than it received.
     #[tactic(auto, unfolding(model::specs::Flows::overruns))]
     pub fn overruns(&self, command: Command) -> bool
-        ensures { result ≡ too_many (command_byte command) self.now }
+        ensures answer { result ≡ too_many (command_byte command) (flow_seen self.now) }
+        ensures within { Within (flow_seen self.now) }
     {
         match command {
             Command::Data => self.unacknowledged >= WINDOW_START,
@@ -44,8 +50,9 @@ impl Flow {
     /// A command was sent. Where the window or the number of messages does not allow it, nothing changes. The answer is whether it was
     /// allowed: a refusal has no other cause, so it needs no error.
     pub fn posted(&mut self, command: Command) -> bool
-        ensures allowed { result ≡ (not (nat_lt self.old.window (is_data (command_byte command))) && not (nat_le message_limit self.old.sent)) }
-        ensures after { self.new ≡ (if result then after_posted (command_byte command) self.old else self.old) }
+        ensures allowed { result ≡ (not (nat_lt (flow_seen self.old).window (is_data (command_byte command))) && not (nat_le message_limit (flow_seen self.old).sent)) }
+        ensures after { flow_seen self.new ≡ (if result then after_posted (command_byte command) (flow_seen self.old) else flow_seen self.old) }
+        ensures within { Within (flow_seen self.new) }
     {
         if !self.window_allows(command) || self.spent() {
             return false;
@@ -57,8 +64,9 @@ impl Flow {
 
     /// A command was delivered, late or not. One that overruns changes nothing. The answer is whether it was allowed, as of `posted`.
     pub fn received(&mut self, command: Command) -> bool
-        ensures allowed { result ≡ not (too_many (command_byte command) self.old) }
-        ensures after { self.new ≡ (if result then after_received (command_byte command) self.old else self.old) }
+        ensures allowed { result ≡ not (too_many (command_byte command) (flow_seen self.old)) }
+        ensures after { flow_seen self.new ≡ (if result then after_received (command_byte command) (flow_seen self.old) else flow_seen self.old) }
+        ensures within { Within (flow_seen self.new) }
     {
         if self.overruns(command) {
             return false;
@@ -70,8 +78,9 @@ impl Flow {
 
     /// 100 DATA were acknowledged. Where fewer wait, nothing changes. The answer is whether it was allowed, as of `posted`.
     pub fn acknowledged(&mut self) -> bool
-        ensures allowed { result ≡ not (nat_lt self.old.unacknowledged step) }
-        ensures after { self.new ≡ (if result then after_acknowledged self.old else self.old) }
+        ensures allowed { result ≡ not (nat_lt (flow_seen self.old).unacknowledged step) }
+        ensures after { flow_seen self.new ≡ (if result then after_acknowledged (flow_seen self.old) else flow_seen self.old) }
+        ensures within { Within (flow_seen self.new) }
     {
         if !self.due() {
             return false;

@@ -44,15 +44,17 @@ impl Streams {
         ensures after { streams_seen self.new ≡ or_unchanged (streams_seen self.old) (receives way hop (command_byte command) stream (streams_seen self.old)) }
         ensures order { KeptByReceiving way (streams_seen self.old) (streams_seen self.new) }
     {
-        let mark = self.mark(way, hop, command, stream);
         match command {
             Command::Begin => match way {
                 Way::Forward => self.accept(hop, stream),
-                Way::Backward => {}
+                Way::Backward => Mark::Late,
             },
-            Command::Sendme | Command::Drop => {}
-            Command::Connected | Command::Data | Command::End => self.change(hop, command, stream),
+            Command::Sendme | Command::Drop => Mark::InTime,
+            Command::Connected | Command::Data | Command::End => {
+                let mark = self.mark(way, hop, command, stream);
+                self.change(hop, command, stream);
+                mark
+            }
         }
-        mark
     }
 }

@@ -4,12 +4,13 @@ ghost use Rattle.std.specs.Option.{option_map};
 ghost use Rattle.std.specs.List.{remove, list_any};
 ghost use Rattle.cell.specs.Commands.{command_byte};
 ghost use Rattle.model.specs.Lists.{nth};
-ghost use Rattle.model.specs.Streams.{no_streams, is_of, is_recorded, applied, with_records, started, or_unchanged};
+ghost use Rattle.model.specs.Streams.{no_streams, is_of, is_recorded, applied, with_records, started, or_unchanged, mark_of};
 ghost use Rattle.streams.specs.Views.{blank, record_seen, records_seen, streams_seen};
 ghost use Rattle.streams.specs.Begins.{may_begin, may_start, client_begins, relay_begins};
+ghost use Rattle.streams.specs.Marks.{mark_number};
 ghost use Rattle.streams.specs.Order.{ClosingOrder};
 
-use crate::types::{CAPACITY, Effect, StreamRecord, StreamState, Streams};
+use crate::types::{CAPACITY, Effect, Mark, StreamRecord, StreamState, Streams};
 use cell::Command;
 
 impl Streams {
@@ -117,14 +118,17 @@ impl Streams {
         }
     }
 
-    // A relay is handed a BEGIN; a late one changes nothing.
+    // A relay is handed a BEGIN; a late one changes nothing. The answer is its mark, so that the records are asked once.
     #[tactic(auto, using(crate::proofs::Records::room_seen), unfolding(crate::specs::Views::streams_seen))]
-    pub(crate) fn accept(&mut self, hop: u16, stream: u16)
-        ensures { streams_seen self.new ≡ or_unchanged (streams_seen self.old) (relay_begins hop stream (streams_seen self.old)) }
+    pub(crate) fn accept(&mut self, hop: u16, stream: u16) -> Mark
+        ensures mark { mark_number result ≡ mark_of (relay_begins hop stream (streams_seen self.old)) }
+        ensures after { streams_seen self.new ≡ or_unchanged (streams_seen self.old) (relay_begins hop stream (streams_seen self.old)) }
     {
-        if self.may_start(stream) {
-            self.start(hop, stream);
+        if !self.may_start(stream) {
+            return Mark::Late;
         }
+        self.start(hop, stream);
+        Mark::InTime
     }
 
     // Whether a relay records a BEGIN of this stream.

@@ -1,11 +1,11 @@
 -- Ends, flow and streams, each by its own call.
-use Rattle.std.proofs.Common.{◌≡◌, ◌+◌, ◌<◌, length, refl, ap, ◌∙◌, arith}
-use Rattle.std.proofs.lemmas.List.{length-map}
+use Rattle.std.proofs.Common.{◌≡◌, ◌+◌, ◌<◌, length, vec_items, refl, ap, ◌∙◌, arith}
+use Rattle.std.proofs.lemmas.List.{length-map, map-set}
 use Rattle.std.proofs.lemmas.Bool.{cond-true}
 use Rattle.cell.specs.Commands.{command_byte}
 use Rattle.cell.specs.Payload.{Message}
 use Rattle.model.specs.Streams.{or_unchanged, client_sends}
-use Rattle.streams.specs.Views.{streams_seen}
+use Rattle.streams.specs.Views.{flow_seen, streams_seen}
 use Rattle.rows.specs.Views.{row_seen}
 use Rattle.rows.specs.Rows.{advanced_to, can_advance}
 use Rattle.rows.proofs.Walks.{can-advance}
@@ -27,7 +27,7 @@ returns g c =
     c.sent.ensures.after ∙ ap (λ (m : Message). or_unchanged cl.streams (client_sends (d + 1) n m.stream cl.streams)) c.message.view_is in
     record {
       client = record {
-        state = same-client _ _ cl.backward cl.backward _ _ _ _ forward refl refl streams;
+        state = same-client _ _ cl.backward cl.backward _ _ _ _ forward refl (map-set flow_seen (vec_items was.flows) d c.args.cleared.flow) streams;
         hops = c.advance.ensures.len;
       };
     }
