@@ -102,12 +102,12 @@ fn tag(mut fields: Fields) -> Result<bool, Stop> {
     Ok(&found[..] == out.as_slice())
 }
 
+// Asked of the digits, so that no more than a payload is ever decoded.
 fn payload(heap: Global, digits: &[u8]) -> Result<Vec<u8>, Stop> {
-    let payload = decode(heap, digits)?.ok_or(Stop::NoVector)?;
-    if payload.len() != 509 {
+    if digits.len() != 2 * 509 {
         return Err(Stop::NoVector);
     }
-    Ok(payload)
+    decode(heap, digits)?.ok_or(Stop::NoVector)
 }
 
 // All payloads but the last are taken; the tag of the last is asked, both alone and as a trial.
